@@ -1,0 +1,21 @@
+-- What a run of numbers k, k + 1, .. comes to when something is worked out for each and joined in that order.
+-- Assumes nothing.
+use Prim.Native.Nat.{ℕ, zero, suc, _+_}
+use mathlib.Core.Bool.{Bool, true, false}
+use mathlib.Core.List.{List, [], _++_}
+
+-- one of two values by a test
+abbrev pub pick : {A : Type 0} → Bool → A → A → A
+pick true a b = a
+pick false a b = b
+
+-- g k, g (k + 1), .. , m of them, joined in that order
+unfoldable pub over : {A : Type 0} → (A → A → A) → A → (ℕ → A) → ℕ → ℕ → A
+over op e g k zero = e
+over op e g k (suc m) = op (g k) (over op e g (suc k) m)
+
+abbrev pub sum : (ℕ → ℕ) → ℕ → ℕ → ℕ
+sum = over _+_ 0
+
+abbrev pub join : {A : Type 0} → (ℕ → List A) → ℕ → ℕ → List A
+join = over _++_ []

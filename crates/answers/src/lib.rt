@@ -1,0 +1,76 @@
+// A refusal's number and place, and the rule for a result buffer that may be too short.
+ghost use mathlib.Core.Path.{_≡_};
+ghost use lib.ListN.{set};
+ghost use Rattle.answers.specs.Refusals.{refusal, none};
+
+// Number 0: not refused.
+pub struct Refusal {
+    pub number: u64,
+    pub place: u64,
+}
+
+impl Refusal {
+    pub const DESCRIPTION: u64 = 1;
+
+    pub const BYTES: u64 = 2;
+
+    pub const VERSION: u64 = 3;
+
+    pub const NAME_SIZE: u64 = 4;
+
+    pub const FLAG: u64 = 5;
+
+    pub const DENSE: u64 = 6;
+
+    pub const NULL_DOMAIN: u64 = 7;
+
+    pub const NOT_A_NUMBER: u64 = 8;
+
+    pub const REVERSED: u64 = 9;
+
+    pub const TILES: u64 = 10;
+
+    pub const LAST_CELLS: u64 = 11;
+
+    pub const OFFSET: u64 = 12;
+
+    pub const FANOUT: u64 = 13;
+
+    pub const LEVELS: u64 = 14;
+
+    pub const OUTSIDE_PARENT: u64 = 15;
+
+    pub const OUTSIDE_DOMAIN: u64 = 16;
+
+    pub const COUNT: u64 = 17;
+
+    pub const TILE_OFFSETS: u64 = 18;
+
+    pub const WINDOW: u64 = 19;
+
+    pub const SUM: u64 = 20;
+
+    pub fn none() -> Refusal
+        ensures { λ r. ⌜ r ≡ none ⌝ }
+    {
+        Refusal {
+            number: 0,
+            place: 0,
+        }
+    }
+
+    pub fn new(number: u64, place: u64) -> Refusal
+        ensures { λ r. ⌜ r ≡ refusal number place ⌝ }
+    {
+        Refusal { number, place }
+    }
+}
+
+// A found tile goes to its place of the buffer, if the buffer has that place.
+pub fn keep(out: &mut [u32], at: usize, tile: u32)
+    ensures { λ _. ⌜ now (out .exit) ≡ set (now (out .entry)) at tile ⌝ }
+{
+    if at < out.len() {
+        out[at] = tile;
+    }
+}

@@ -1,0 +1,41 @@
+-- Where the dimensions stand in a box.
+-- Assumes nothing.
+use mathlib.Core.Path.{_≡_, refl, sym, _∙_}
+use mathlib.Core.List.{List}
+use Prim.Native.Nat.{ℕ, zero, suc, _+_, _*_, _≤_, _<_, min}
+use native.Mathlib.Nat.{add-zero, zero-add, add-assoc}
+use native.Mathlib.Numerals.{add-one}
+use native.Mathlib.Omega.{arith}
+use Rattle.answers.specs.Runs.{over, sum}
+use Rattle.answers.proofs.Runs.{over-snoc, sum-le}
+use Rattle.boxes.specs.declared.Kind.{Kind}
+use Rattle.boxes.specs.declared.Kind.the-variants.{Int32, Int64, Float32, Float64}
+use Rattle.boxes.specs.declared.Dimension.{Dimension}
+use Rattle.boxes.specs.declared.Description.{Description}
+use Rattle.boxes.specs.Kinds.{rangeBytes}
+use Rattle.boxes.specs.Description.{kindAt, sideStart, boxBytes}
+
+pub range-bytes-most : (k : Kind) → (8 ≤ rangeBytes k) × (rangeBytes k ≤ 16)
+range-bytes-most Int32 = (omega arith, omega arith)
+range-bytes-most Int64 = (omega arith, omega arith)
+range-bytes-most Float32 = (omega arith, omega arith)
+range-bytes-most Float64 = (omega arith, omega arith)
+
+module _ (kinds : List Dimension) where
+  pub start-first : sideStart kinds 0 ≡ 0
+  unfolding sideStart over
+  start-first = refl
+
+  -- the next dimension starts where this one ends
+  pub start-next : (i : ℕ) → sideStart kinds (i + 1) ≡ sideStart kinds i + rangeBytes (kindAt kinds i)
+  unfolding sideStart
+  start-next i =
+      rw (add-one i) (over-snoc _+_ 0 add-assoc zero-add add-zero (λ j. rangeBytes (kindAt kinds j)) 0 i ∙ rw zero-add)
+
+  pub start-most : (i : ℕ) → (8 * i ≤ sideStart kinds i) × (sideStart kinds i ≤ 16 * i)
+  start-most zero = rw start-first (omega arith, omega arith)
+  start-most (suc i) =
+      let p = start-most i in
+      let q = range-bytes-most (kindAt kinds i) in
+      let e = rw add-one at (start-next i) in
+      rw e (omega arith, omega arith)
