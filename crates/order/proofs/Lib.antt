@@ -1,0 +1,9 @@
+-- The laws that belong to no one function.
+pub mod Little
+pub mod Tests
+pub mod Sides
+pub mod Worth
+pub mod Floats
+pub mod Signed
+pub mod Read
+pub mod Cases

@@ -1,0 +1,181 @@
+// What do bytes and bit patterns stand for, and in which order? Little-endian reads, the values of patterns, and comparisons
+// whose contracts speak of the patterns alone.
+ghost use mathlib.Core.Path.{_≡_};
+ghost use Prim.Native.Nat.{_+_, _≤_, _<_};
+ghost use lib.ListN.{length};
+ghost use lib.Ieee.{binary32, binary64, toBits, ofBits, nanBits};
+ghost use mir.Syntax.{w32, w64};
+ghost use mir.Val.{toZ, ofZ};
+ghost use Rattle.order.specs.Little.{little};
+ghost use Rattle.order.specs.Key.{floatAtMost, signedAtMost};
+
+// The four bytes at a place. A byte past the end counts 0.
+pub fn u32_at(s: &[u8], at: usize) -> u32
+    ensures { λ r. ⌜ r ≡ little (now (s .entry)) at 4 ⌝ }
+{
+    let n = s.len();
+    if at <= n {
+        if 4 <= n - at {
+            four(s, at)
+        } else {
+            rest(s, at) as u32
+        }
+    } else {
+        0
+    }
+}
+
+// The eight bytes at a place. A byte past the end counts 0.
+pub fn u64_at(s: &[u8], at: usize) -> u64
+    ensures { λ r. ⌜ r ≡ little (now (s .entry)) at 8 ⌝ }
+{
+    let n = s.len();
+    if at <= n {
+        if 8 <= n - at {
+            eight(s, at)
+        } else {
+            rest(s, at)
+        }
+    } else {
+        0
+    }
+}
+
+// The number that a two's complement pattern stands for.
+pub fn i32_of(p: u32) -> i32
+    ensures { λ r. ⌜ r ≡ toZ w32 p ⌝ }
+{
+    if p < 0x8000_0000 {
+        p as i32
+    } else {
+        let m = (p - 0x8000_0000) as i32;
+        m + (-0x8000_0000)
+    }
+}
+
+// The same of 64 bits.
+pub fn i64_of(p: u64) -> i64
+    ensures { λ r. ⌜ r ≡ toZ w64 p ⌝ }
+{
+    if p < 0x8000_0000_0000_0000 {
+        p as i64
+    } else {
+        let m = (p - 0x8000_0000_0000_0000) as i64;
+        m + (-0x8000_0000_0000_0000)
+    }
+}
+
+// The value that a float's pattern stands for. `from_bits` is undefined at a NaN's pattern, so that is tested for, and dividing zero by zero
+// makes a NaN.
+pub fn f32_of(p: u32) -> f32
+    ensures { λ r. ⌜ r ≡ ofBits binary32 p ⌝ }
+{
+    if p % 0x8000_0000 > 0x7f80_0000 {
+        0.0 / 0.0
+    } else {
+        f32::from_bits(p)
+    }
+}
+
+// The same of 64 bits.
+pub fn f64_of(p: u64) -> f64
+    ensures { λ r. ⌜ r ≡ ofBits binary64 p ⌝ }
+{
+    if p % 0x8000_0000_0000_0000 > 0x7ff0_0000_0000_0000 {
+        0.0 / 0.0
+    } else {
+        f64::from_bits(p)
+    }
+}
+
+// Is a at most b?
+pub fn i32_at_most(a: i32, b: i32) -> bool
+    ensures { λ r. ⌜ r ≡ signedAtMost w32 (ofZ w32 a) (ofZ w32 b) ⌝ }
+{
+    a <= b
+}
+
+// The same of 64 bits.
+pub fn i64_at_most(a: i64, b: i64) -> bool
+    ensures { λ r. ⌜ r ≡ signedAtMost w64 (ofZ w64 a) (ofZ w64 b) ⌝ }
+{
+    a <= b
+}
+
+// Is a at most b? False where one of them is a NaN.
+pub fn f32_at_most(a: f32, b: f32) -> bool
+    ensures { λ r. ⌜ r ≡ floatAtMost binary32 (toBits binary32 a) (toBits binary32 b) ⌝ }
+{
+    a <= b
+}
+
+// The same of 64 bits.
+pub fn f64_at_most(a: f64, b: f64) -> bool
+    ensures { λ r. ⌜ r ≡ floatAtMost binary64 (toBits binary64 a) (toBits binary64 b) ⌝ }
+{
+    a <= b
+}
+
+// A NaN alone differs from itself.
+pub fn f32_is_nan(x: f32) -> bool
+    ensures { λ r. ⌜ r ≡ nanBits binary32 (toBits binary32 x) ⌝ }
+{
+    x != x
+}
+
+// The same of 64 bits.
+pub fn f64_is_nan(x: f64) -> bool
+    ensures { λ r. ⌜ r ≡ nanBits binary64 (toBits binary64 x) ⌝ }
+{
+    x != x
+}
+
+// All four bytes are there. With one `let` a byte this compiles to one load.
+fn four(s: &[u8], at: usize) -> u32
+    requires { ⌜ at + 4 ≤ length (now s) ⌝ }
+    ensures { λ r. ⌜ r ≡ little (now (s .entry)) at 4 ⌝ }
+{
+    let a = wide32(s[at]);
+    let b = wide32(s[at + 1]);
+    let c = wide32(s[at + 2]);
+    let d = wide32(s[at + 3]);
+    a + 256 * (b + 256 * (c + 256 * d))
+}
+
+// All eight bytes are there.
+fn eight(s: &[u8], at: usize) -> u64
+    requires { ⌜ at + 8 ≤ length (now s) ⌝ }
+    ensures { λ r. ⌜ r ≡ little (now (s .entry)) at 8 ⌝ }
+{
+    let low = four(s, at);
+    let high = four(s, at + 4);
+    low as u64 + 0x1_0000_0000 * (high as u64)
+}
+
+// Fewer than eight bytes are left: the number of those, which is that of eight.
+fn rest(s: &[u8], at: usize) -> u64
+    requires { ⌜ (at ≤ length (now s)) × (length (now s) < at + 8) ⌝ }
+    ensures { λ r. ⌜ r ≡ little (now (s .entry)) at 8 ⌝ }
+{
+    let mut number: u64 = 0;
+    let mut i = s.len();
+    while at < i {
+        i -= 1;
+        let low = wide64(s[i]);
+        number = low + 256 * number;
+    }
+    number
+}
+
+// A byte by its contract alone: an index that is cast in place would ask each time that the byte fits.
+fn wide32(x: u8) -> u32
+    ensures { λ r. ⌜ (r ≡ x) × (r < 256) ⌝ }
+{
+    x as u32
+}
+
+fn wide64(x: u8) -> u64
+    ensures { λ r. ⌜ (r ≡ x) × (r < 256) ⌝ }
+{
+    x as u64
+}
