@@ -2,12 +2,10 @@
 -- and what it means that none refused (`clear`).
 -- Assumes nothing.
 use mathlib.Core.Path.{_≡_, refl, ap, sym, _∙_}
-use mathlib.Core.Logic.{_⊎_, inl, inr}
 use mathlib.Core.Bool.{Bool, true, false}
-use mathlib.Core.List.{List, [], _∷_}
+use mathlib.Core.List.{List, [], _∷_, _++_}
 use Prim.Native.Nat.{ℕ, zero, suc, _+_, _-_, _≤_, _<_}
-use native.Mathlib.Numerals.{add-one}
-use native.Mathlib.Nat.{eq-or-lt-of-le}
+use native.Mathlib.Nat.{add-zero, zero-add, suc-add, add-suc}
 use native.Mathlib.Omega.{arith}
 use lib.Dec.{eqb}
 use borrow.Author.Tests.{eq-eqb, ne-eqb, eqb-true, eqb-false}
@@ -15,7 +13,7 @@ use Rattle.answers.specs.declared.Refusal.{Refusal}
 use Rattle.answers.specs.Refusals.{refusal, none}
 use Rattle.answers.specs.Runs.{pick, over}
 use Rattle.answers.specs.Checks.{check, otherwise, first, each}
-use Rattle.answers.proofs.Runs.{Each}
+use Rattle.answers.proofs.Runs.{Each, over-done, over-turn, over-left, over-says}
 
 -- two
 pub go-on : (r s : Refusal) → r .number ≡ 0 → otherwise r s ≡ s
@@ -30,6 +28,14 @@ both-clear r s h = go (eqb (r .number) 0) refl h
     go : (t : Bool) → eqb (r .number) 0 ≡ t → pick t s r .number ≡ 0 → (r .number ≡ 0) × (s .number ≡ 0)
     go true e h = (eqb-true (r .number) 0 e, h)
     go false e h = absurd (eqb-false (r .number) 0 e h)
+
+pub regroup : (r s t : Refusal) → otherwise (otherwise r s) t ≡ otherwise r (otherwise s t)
+regroup r s t = go (eqb (r .number) 0) refl
+  where
+    go : (b : Bool) → eqb (r .number) 0 ≡ b
+        → pick (eqb (pick b s r .number) 0) t (pick b s r) ≡ pick b (otherwise s t) r
+    go true e = refl
+    go false e = rw e
 
 -- a list
 pub ended : first [] ≡ none
@@ -61,30 +67,49 @@ pub check-clear : (t : Bool) (number place : ℕ) → 0 < number → check t num
 check-clear true number place some h = absurd (omega arith)
 check-clear false number place some h = refl
 
+-- the last check of a list
+pub last-check : (t : Bool) (number place : ℕ) → 0 < number → first (check t number place ∷ []) ≡ check t number place
+last-check true number place some = stop-check true number place [] refl some
+last-check false number place some = past-check false number place [] refl ∙ ended
+
+-- two lists, one after the other
+pub first-append : (rs ss : List Refusal) → first (rs ++ ss) ≡ otherwise (first rs) (first ss)
+unfolding first
+first-append [] ss = refl
+first-append (r ∷ rs) ss = ap (otherwise r) (first-append rs ss) ∙ sym (regroup r (first rs) (first ss))
+
+-- as code joins them: to what was said so far, one more
+abbrev pub joined : Refusal → List Refusal → Refusal
+joined r [] = r
+joined r (s ∷ ss) = joined (otherwise r s) ss
+
+pub join-next : {r r′ s s′ t : Refusal} → t ≡ otherwise r s → r ≡ r′ → s ≡ s′ → t ≡ otherwise r′ s′
+join-next e p q = e ∙ rw (p, q)
+
+pub joined-first : (r : Refusal) (ss : List Refusal) (t : Bool) (number place : ℕ) → 0 < number
+    → joined r (ss ++ (check t number place ∷ [])) ≡ first (r ∷ ss ++ (check t number place ∷ []))
+unfolding first
+joined-first r [] t number place some = ap (otherwise r) (sym (last-check t number place some))
+joined-first r (s ∷ ss) t number place some =
+    joined-first (otherwise r s) ss t number place some ∙ regroup r s (first (ss ++ (check t number place ∷ [])))
+
 -- a run
 module _ (g : ℕ → Refusal) where
   pub none-left : (k m : ℕ) → m ≤ 0 → each g k m ≡ none
-  unfolding over
-  none-left k zero h = refl
-  none-left k (suc m) h = absurd (omega arith)
+  none-left = over-done otherwise none g
 
   pub turn : (k m : ℕ) → 0 < m → each g k m ≡ otherwise (g k) (each g (k + 1) (m - 1))
-  unfolding over
-  turn k zero h = absurd (omega arith)
-  turn k (suc m) h =
-      let e : suc m - 1 ≡ m = omega arith in
-      rw (add-one, e)
+  turn = over-turn otherwise none g
+
+  -- as a loop over n of them goes on at i, past one that says nothing, or stops at one that refuses
+  pub past-left : (i n : ℕ) (r : Refusal) → i < n → r ≡ g i → r .number ≡ 0 → each g i (n - i) ≡ each g (i + 1) (n - (i + 1))
+  past-left i n r l e h = over-left otherwise none g i n l ∙ rw (← e) (go-on r (each g (i + 1) (n - (i + 1))) h)
+
+  pub stop-left : (i n : ℕ) (r : Refusal) → i < n → r ≡ g i → (r .number ≡ 0 → ⊥) → each g i (n - i) ≡ r
+  stop-left i n r l e h = over-left otherwise none g i n l ∙ rw (← e) (halt r (each g (i + 1) (n - (i + 1))) h)
 
   pub each-clear : (k m : ℕ) → each g k m .number ≡ 0 → Each (λ i. g i .number ≡ 0) k m
-  unfolding over
-  each-clear k zero h i a b = absurd (omega arith)
-  each-clear k (suc m) h i a b =
-      let both = both-clear (g k) (each g (suc k) m) h in
-      go (eq-or-lt-of-le a) (both .0) (λ c. each-clear (suc k) m (both .1) i c (omega arith))
-    where
-      go : (k ≡ i) ⊎ (k < i) → g k .number ≡ 0 → (suc k ≤ i → g i .number ≡ 0) → g i .number ≡ 0
-      go (inl e) x y = rw (← e) x
-      go (inr l) x y = y l
+  each-clear = over-says otherwise none (λ r. r .number ≡ 0) both-clear g
 
 -- nothing refuses where no part does
 pub all-clear : (g : ℕ → Refusal) (k m : ℕ) → Each (λ i. g i ≡ none) k m → each g k m ≡ none
@@ -92,3 +117,24 @@ unfolding over
 all-clear g k zero p = refl
 all-clear g k (suc m) p =
     rw (p k (omega arith) (omega arith)) (all-clear g (suc k) m (λ i a b. p i (omega arith) (omega arith)))
+
+-- what holds of nothing said and of each part holds of the whole
+pub either : (P : Refusal → Type 0) (r s : Refusal) → P r → P s → P (otherwise r s)
+either P r s p q = go (eqb (r .number) 0)
+  where
+    go : (t : Bool) → P (pick t s r)
+    go true = q
+    go false = p
+
+pub each-has : (P : Refusal → Type 0) (g : ℕ → Refusal) (k m : ℕ) → P none → Each (λ i. P (g i)) k m → P (each g k m)
+unfolding over
+each-has P g k zero n p = n
+each-has P g k (suc m) n p =
+    either P (g k) (each g (suc k) m) (p k (omega arith) (omega arith))
+    (each-has P g (suc k) m n (λ i a b. p i (omega arith) (omega arith)))
+
+-- a run in two parts
+pub each-add : (g : ℕ → Refusal) (k a b : ℕ) → each g k (a + b) ≡ otherwise (each g k a) (each g (k + a) b)
+unfolding over
+each-add g k zero b = simp (zero-add, add-zero)
+each-add g k (suc a) b = simp (suc-add, add-suc, each-add g (suc k) a b, regroup)

@@ -1,4 +1,5 @@
 -- The laws that belong to no one function.
 pub mod Runs
+pub mod Filled
 pub mod Checks
 pub mod Laid

@@ -1,8 +1,10 @@
 -- Laws of a run of numbers, joined by an operation that has a unit and brackets freely.
 -- Assumes nothing.
-use mathlib.Core.Path.{_≡_, refl, ap, sym, _∙_}
+use mathlib.Core.Path.{_≡_, refl, ap, _∙_}
+use mathlib.Core.Logic.{_⊎_, inl, inr}
 use Prim.Native.Nat.{ℕ, zero, suc, _+_, _-_, _*_, _≤_, _<_, min}
-use native.Mathlib.Nat.{add-zero, zero-add, suc-add, add-suc}
+use native.Mathlib.Nat.{add-zero, zero-add, suc-add, add-suc, eq-or-lt-of-le}
+use native.Mathlib.Numerals.{add-one}
 use native.Mathlib.Decide.{decLe}
 use native.Mathlib.Omega.{arith}
 use Rattle.answers.specs.Runs.{over, sum}
@@ -17,6 +19,49 @@ module _ {A : Type 0} (op : A → A → A) (e : A) where
   over-ext g h k zero p = refl
   over-ext g h k (suc m) p =
       rw (p k (omega arith) (omega arith), over-ext g h (suc k) m (λ i a b. p i (omega arith) (omega arith)))
+
+  -- as a loop goes: none are left, or the next and the others; and what is left of n at the start and at i
+  pub over-done : (g : ℕ → A) (k m : ℕ) → m ≤ 0 → over op e g k m ≡ e
+  unfolding over
+  over-done g k zero h = refl
+  over-done g k (suc m) h = absurd (omega arith)
+
+  pub over-turn : (g : ℕ → A) (k m : ℕ) → 0 < m → over op e g k m ≡ op (g k) (over op e g (k + 1) (m - 1))
+  unfolding over
+  over-turn g k zero h = absurd (omega arith)
+  over-turn g k (suc m) h =
+      let z : suc m - 1 ≡ m = omega arith in
+      rw (add-one, z)
+
+  pub over-start : (g : ℕ → A) (n : ℕ) → over op e g 0 n ≡ over op e g 0 (n - 0)
+  over-start g n =
+      let z : n - 0 ≡ n = omega arith in
+      rw z
+
+  pub over-left : (g : ℕ → A) (i n : ℕ) → i < n → over op e g i (n - i) ≡ op (g i) (over op e g (i + 1) (n - (i + 1)))
+  over-left g i n h =
+      let z : n - (i + 1) ≡ n - i - 1 = omega arith in
+      over-turn g i (n - i) (omega arith) ∙ rw z
+
+  -- what is known of the whole is known of each, if it goes over to the parts of a join
+  pub over-says : (P : A → Type 0) → ((a b : A) → P (op a b) → P a × P b) → (g : ℕ → A) (k m : ℕ) → P (over op e g k m) → Each (λ i. P (g i)) k m
+  unfolding over
+  over-says P parts g k zero h i a b = absurd (omega arith)
+  over-says P parts g k (suc m) h i a b =
+      let both = parts (g k) (over op e g (suc k) m) h in
+      go (eq-or-lt-of-le a) (both .0) (λ c. over-says P parts g (suc k) m (both .1) i c (omega arith))
+    where
+      go : (k ≡ i) ⊎ (k < i) → P (g k) → (suc k ≤ i → P (g i)) → P (g i)
+      go (inl z) x y = rw (← z) x
+      go (inr l) x y = y l
+
+-- a map that keeps joins and the unit goes over to each
+pub over-map : {A B : Type 0} (op : A → A → A) (e : A) (op′ : B → B → B) (e′ : B) (f : A → B)
+    → f e ≡ e′ → ((a b : A) → f (op a b) ≡ op′ (f a) (f b)) → (g : ℕ → A) (k m : ℕ) → f (over op e g k m) ≡ over op′ e′ (λ i. f (g i)) k m
+unfolding over
+over-map op e op′ e′ f unit joins g k zero = unit
+over-map op e op′ e′ f unit joins g k (suc m) =
+    joins (g k) (over op e g (suc k) m) ∙ ap (op′ (f (g k))) (over-map op e op′ e′ f unit joins g (suc k) m)
 
 module _ {A : Type 0} (op : A → A → A) (e : A)
     (assoc : (a b c : A) → op (op a b) c ≡ op a (op b c)) (left : (a : A) → op e a ≡ a) (right : (a : A) → op a e ≡ a) where

@@ -2,7 +2,8 @@
 -- Assumes nothing.
 use Prim.Native.Nat.{ℕ, zero, suc, _+_}
 use mathlib.Core.Bool.{Bool, true, false}
-use mathlib.Core.List.{List, [], _++_}
+use mathlib.Core.List.{List, [], _∷_, _++_}
+use lib.Dec.{ltb}
 
 -- one of two values by a test
 abbrev pub pick : {A : Type 0} → Bool → A → A → A
@@ -19,3 +20,7 @@ sum = over _+_ 0
 
 abbrev pub join : {A : Type 0} → (ℕ → List A) → ℕ → ℕ → List A
 join = over _++_ []
+
+-- a list of so many places: g of each of the first m, and z in the others
+abbrev pub filled : {A : Type 0} → (ℕ → A) → A → ℕ → ℕ → List A
+filled g z m size = join (λ i. pick (ltb i m) (g i) z ∷ []) 0 size

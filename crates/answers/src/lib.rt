@@ -2,6 +2,7 @@
 ghost use mathlib.Core.Path.{_≡_};
 ghost use lib.ListN.{set};
 ghost use Rattle.answers.specs.Refusals.{refusal, none};
+ghost use Rattle.answers.specs.Checks.{check, otherwise};
 
 // Number 0: not refused.
 pub struct Refusal {
@@ -63,6 +64,24 @@ impl Refusal {
         ensures { λ r. ⌜ r ≡ refusal number place ⌝ }
     {
         Refusal { number, place }
+    }
+
+    // What one check says.
+    pub fn when(test: bool, number: u64, place: u64) -> Refusal
+        ensures { λ r. ⌜ r ≡ check test number place ⌝ }
+    {
+        if test {
+            Refusal { number, place }
+        } else {
+            Refusal::none()
+        }
+    }
+
+    // The first of two that refuses.
+    pub fn or(self, next: Refusal) -> Refusal
+        ensures { λ r. ⌜ r ≡ otherwise self next ⌝ }
+    {
+        if self.number == 0 { next } else { self }
     }
 }
 

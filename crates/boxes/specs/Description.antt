@@ -1,6 +1,6 @@
 -- The description: D dimensions with their kinds, N, the entries in each per-field list, and the capacity C in cells.
 -- Assumes nothing.
-use Prim.Native.Nat.{ℕ, _+_, min}
+use Prim.Native.Nat.{ℕ, min}
 use mathlib.Core.List.{List, [], _∷_}
 use lib.ListN.{getD}
 use Rattle.answers.specs.Refusals.{description}

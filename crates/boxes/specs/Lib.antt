@@ -2,3 +2,6 @@
 pub mod Limits
 pub mod Kinds
 pub mod Description
+pub mod Ranges
+pub mod Boxes
+pub mod Windows

@@ -1,8 +1,13 @@
 // Kinds, the description with its limits, ranges, MBRs and windows: reading, checking, inside, meets.
 use answers::Refusal;
 ghost use mathlib.Core.Path.{_≡_};
+ghost use mathlib.Core.Bool.{false, _&&_};
+ghost use Prim.Native.Nat.{_≤_};
 ghost use Rattle.boxes.specs.Limits.{outside};
-ghost use Rattle.boxes.specs.Kinds.{rangeBytes};
+ghost use Rattle.boxes.specs.Kinds.{rangeBytes, kindNumber};
+ghost use Rattle.boxes.specs.Ranges.{kindOf, endsOf, endsAt, rangeAt, judged, judgedRefusal, inside, meets, lies};
+ghost use Rattle.boxes.specs.Boxes.{noBox, boxOf, rangesRefusal, insideRefusal, boxMeets, windowKinds};
+ghost use Rattle.boxes.specs.Windows.{sideRefusal, windowRefusal};
 ghost use Rattle.boxes.specs.Description.{descriptionRefusal, sidesOf, boxBytes};
 
 pub enum Kind {
@@ -24,6 +29,32 @@ pub struct Description {
     pub capacity: u64,
 }
 
+// A minimum and a maximum, of one kind.
+pub enum Range {
+    I32(i32, i32),
+    I64(i64, i64),
+    F32(f32, f32),
+    F64(f64, f64),
+}
+
+// An MBR is an array of four sides, of which the first D count.
+pub struct Side {
+    pub range: Range,
+}
+
+// A query's box, with a number of dimensions of its own.
+pub struct Window {
+    pub dimensions: u64,
+    pub sides: [Side; 4],
+}
+
+// What is told of a range.
+pub enum Judged {
+    Sound(Range),
+    NotANumber,
+    Reversed,
+}
+
 impl Kind {
     // The bytes of a stored range.
     pub fn range_bytes(self) -> usize
@@ -34,6 +65,18 @@ impl Kind {
             Kind::Int64 => 16,
             Kind::Float32 => 8,
             Kind::Float64 => 16,
+        }
+    }
+
+    // TileDB's Datatype number.
+    pub fn number(self) -> u64
+        ensures { λ r. ⌜ r ≡ kindNumber self ⌝ }
+    {
+        match self {
+            Kind::Int32 => 0,
+            Kind::Int64 => 1,
+            Kind::Float32 => 2,
+            Kind::Float64 => 3,
         }
     }
 }
@@ -113,6 +156,170 @@ impl Description {
     }
 }
 
+impl Range {
+    pub fn kind(self) -> Kind
+        ensures { λ r. ⌜ r ≡ kindOf self ⌝ }
+    {
+        match self {
+            Range::I32(_, _) => Kind::Int32,
+            Range::I64(_, _) => Kind::Int64,
+            Range::F32(_, _) => Kind::Float32,
+            Range::F64(_, _) => Kind::Float64,
+        }
+    }
+
+    // Sound, or an end is NaN, or else the minimum is above the maximum.
+    pub fn judge(self) -> Judged
+        ensures { λ r. ⌜ r ≡ judged (endsOf self) self ⌝ }
+    {
+        match self {
+            Range::I32(low, high) => {
+                if order::i32_at_most(low, high) {
+                    Judged::Sound(self)
+                } else {
+                    Judged::Reversed
+                }
+            }
+            Range::I64(low, high) => {
+                if order::i64_at_most(low, high) {
+                    Judged::Sound(self)
+                } else {
+                    Judged::Reversed
+                }
+            }
+            Range::F32(low, high) => {
+                if order::f32_at_most(low, high) {
+                    return Judged::Sound(self);
+                }
+                if order::f32_is_nan(low) {
+                    return Judged::NotANumber;
+                }
+                if order::f32_is_nan(high) {
+                    return Judged::NotANumber;
+                }
+                Judged::Reversed
+            }
+            Range::F64(low, high) => {
+                if order::f64_at_most(low, high) {
+                    return Judged::Sound(self);
+                }
+                if order::f64_is_nan(low) {
+                    return Judged::NotANumber;
+                }
+                if order::f64_is_nan(high) {
+                    return Judged::NotANumber;
+                }
+                Judged::Reversed
+            }
+        }
+    }
+
+    // Inside or equal.
+    pub fn inside(self, outer: Range) -> bool
+        ensures { λ r. ⌜ r ≡ inside (endsOf self) (endsOf outer) ⌝ }
+    {
+        lies(self, outer, true)
+    }
+
+    // Edges included. A range with NaN meets nothing.
+    pub fn meets(self, query: Range) -> bool
+        ensures { λ r. ⌜ r ≡ meets (endsOf self) (endsOf query) ⌝ }
+    {
+        lies(self, query, false)
+    }
+}
+
+// Whether a range lies inside another, or else whether it meets it; of another kind it does neither.
+fn lies(a: Range, b: Range, inside: bool) -> bool
+    ensures { λ r. ⌜ r ≡ lies inside (endsOf a) (endsOf b) ⌝ }
+{
+    match a {
+        Range::I32(low, high) => match b {
+            Range::I32(least, most) => {
+                if inside {
+                    both(
+                        order::i32_at_most(least, low),
+                        order::i32_at_most(high, most),
+                    )
+                } else {
+                    both(
+                        order::i32_at_most(low, most),
+                        order::i32_at_most(least, high),
+                    )
+                }
+            }
+            _ => false,
+        },
+        Range::I64(low, high) => match b {
+            Range::I64(least, most) => {
+                if inside {
+                    both(
+                        order::i64_at_most(least, low),
+                        order::i64_at_most(high, most),
+                    )
+                } else {
+                    both(
+                        order::i64_at_most(low, most),
+                        order::i64_at_most(least, high),
+                    )
+                }
+            }
+            _ => false,
+        },
+        Range::F32(low, high) => match b {
+            Range::F32(least, most) => {
+                if inside {
+                    both(
+                        order::f32_at_most(least, low),
+                        order::f32_at_most(high, most),
+                    )
+                } else {
+                    both(
+                        order::f32_at_most(low, most),
+                        order::f32_at_most(least, high),
+                    )
+                }
+            }
+            _ => false,
+        },
+        Range::F64(low, high) => match b {
+            Range::F64(least, most) => {
+                if inside {
+                    both(
+                        order::f64_at_most(least, low),
+                        order::f64_at_most(high, most),
+                    )
+                } else {
+                    both(
+                        order::f64_at_most(low, most),
+                        order::f64_at_most(least, high),
+                    )
+                }
+            }
+            _ => false,
+        },
+    }
+}
+
+fn both(a: bool, b: bool) -> bool
+    ensures { λ r. ⌜ r ≡ (a && b) ⌝ }
+{
+    if a { b } else { false }
+}
+
+impl Judged {
+    // What each case says at a place.
+    pub fn refusal(self, place: u64) -> Refusal
+        ensures { λ r. ⌜ r ≡ judgedRefusal self place ⌝ }
+    {
+        match self {
+            Judged::Sound(_) => Refusal::none(),
+            Judged::NotANumber => Refusal::new(Refusal::NOT_A_NUMBER, place),
+            Judged::Reversed => Refusal::new(Refusal::REVERSED, place),
+        }
+    }
+}
+
 // How many sides of a box count: one a dimension, and no more than there are.
 pub fn sides_of(dimensions: u64) -> usize
     ensures { λ r. ⌜ r ≡ sidesOf dimensions ⌝ }
@@ -129,4 +336,195 @@ pub fn outside(least: u64, most: u64, x: u64) -> bool
     ensures { λ r. ⌜ r ≡ outside least most x ⌝ }
 {
     if x < least { true } else { most < x }
+}
+
+// The range of a kind at a place of a box's bytes.
+fn range_at(bytes: &[u8], at: usize, kind: Kind) -> Range
+    ensures { λ r. ⌜ r ≡ rangeAt kind (now (bytes .entry)) at ⌝ }
+{
+    match kind {
+        Kind::Int32 => {
+            let ends = order::pair32_at(bytes, at);
+            Range::I32(order::i32_of(ends.low), order::i32_of(ends.high))
+        }
+        Kind::Int64 => {
+            let ends = order::pair64_at(bytes, at);
+            Range::I64(order::i64_of(ends.low), order::i64_of(ends.high))
+        }
+        Kind::Float32 => {
+            let ends = order::pair32_at(bytes, at);
+            Range::F32(order::f32_of(ends.low), order::f32_of(ends.high))
+        }
+        Kind::Float64 => {
+            let ends = order::pair64_at(bytes, at);
+            Range::F64(order::f64_of(ends.low), order::f64_of(ends.high))
+        }
+    }
+}
+
+pub fn no_box() -> [Side; 4]
+    ensures { λ r. ⌜ r ≡ noBox ⌝ }
+{
+    let side = Side {
+        range: Range::I64(0, 0),
+    };
+    [side; 4]
+}
+
+// The box in its bytes, with an int64 range 0 to 0 in the places past the dimensions. Bytes past the end count 0.
+pub fn read_box(bytes: &[u8], kinds: [Dimension; 4], dimensions: u64) -> [Side; 4]
+    ensures { λ r. ⌜ r ≡ boxOf kinds (sidesOf dimensions) (now (bytes .entry)) ⌝ }
+{
+    let mut sides = no_box();
+    let n = sides_of(dimensions);
+    let mut at: usize = 0;
+    let mut i: usize = 0;
+    while i < n {
+        let d = kinds[i];
+        let kind = d.kind;
+        let range = range_at(bytes, at, kind);
+        sides[i] = Side { range: range };
+        at += kind.range_bytes();
+        i += 1;
+    }
+    sides
+}
+
+// The ranges of a box in turn: 8 or 9 of the first that has a fault, at its start from the box's.
+pub fn check_ranges(bytes: &[u8], kinds: [Dimension; 4], dimensions: u64) -> Refusal
+    ensures { λ r. ⌜ r ≡ rangesRefusal kinds (sidesOf dimensions) (now (bytes .entry)) 0 ⌝ }
+{
+    let n = sides_of(dimensions);
+    let mut at: usize = 0;
+    let mut i: usize = 0;
+    while i < n {
+        let d = kinds[i];
+        let kind = d.kind;
+        let range = range_at(bytes, at, kind);
+        let told = range.judge().refusal(at as u64);
+        if told.number != 0 {
+            return told;
+        }
+        at += kind.range_bytes();
+        i += 1;
+    }
+    Refusal::none()
+}
+
+// The ranges of a box in turn, and then whether it lies inside another, with a number for that at the box's start.
+pub fn check_inside(
+    bytes: &[u8],
+    kinds: [Dimension; 4],
+    dimensions: u64,
+    outer: [Side; 4],
+    number: u64,
+) -> Refusal
+    ensures { λ r. ⌜ r ≡ insideRefusal kinds (sidesOf dimensions) (now (bytes .entry)) outer number ⌝ }
+{
+    let n = sides_of(dimensions);
+    let mut inside = true;
+    let mut at: usize = 0;
+    let mut i: usize = 0;
+    while i < n {
+        let d = kinds[i];
+        let kind = d.kind;
+        let range = range_at(bytes, at, kind);
+        let told = range.judge().refusal(at as u64);
+        if told.number != 0 {
+            return told;
+        }
+        let o = outer[i];
+        let around = o.range;
+        inside = both(inside, range.inside(around));
+        at += kind.range_bytes();
+        i += 1;
+    }
+    if inside {
+        Refusal::none()
+    } else {
+        Refusal::new(number, 0)
+    }
+}
+
+// Whether the box in these bytes meets a window in each dimension. The box is read in the window's kinds, and the dimensions stand one by one
+// with constant indices: a loop would copy the window for every box.
+pub fn box_meets(bytes: &[u8], dimensions: u64, window: [Side; 4]) -> bool
+    ensures { λ r. ⌜ r ≡ boxMeets (windowKinds window) (sidesOf dimensions) (now (bytes .entry)) window ⌝ }
+{
+    if dimensions == 0 {
+        return true;
+    }
+    let a = window[0];
+    let first = a.range;
+    if !side_meets(bytes, 0, first) {
+        return false;
+    }
+    if dimensions == 1 {
+        return true;
+    }
+    let b = window[1];
+    let second = b.range;
+    let one = first.kind().range_bytes();
+    if !side_meets(bytes, one, second) {
+        return false;
+    }
+    if dimensions == 2 {
+        return true;
+    }
+    let c = window[2];
+    let third = c.range;
+    let two = one + second.kind().range_bytes();
+    if !side_meets(bytes, two, third) {
+        return false;
+    }
+    if dimensions == 3 {
+        return true;
+    }
+    let d = window[3];
+    let fourth = d.range;
+    let three = two + third.kind().range_bytes();
+    side_meets(bytes, three, fourth)
+}
+
+// Whether the range at a place of a box's bytes meets a window's. It is read in the window's kind.
+fn side_meets(bytes: &[u8], at: usize, query: Range) -> bool
+    ensures { λ r. ⌜ r ≡ meets (endsAt (kindOf query) (now (bytes .entry)) at) (endsOf query) ⌝ }
+{
+    let kind = query.kind();
+    let range = range_at(bytes, at, kind);
+    range.meets(query)
+}
+
+// 19 for the number of dimensions; then per dimension 19, 8, 9, placed at the dimension.
+pub fn check_window(description: Description, window: Window) -> Refusal
+    ensures { λ r. ⌜ r ≡ windowRefusal description window ⌝ }
+{
+    if window.dimensions != description.dimensions {
+        return Refusal::new(Refusal::WINDOW, 0);
+    }
+    let kinds = description.kinds;
+    let sides = window.sides;
+    let n = sides_of(description.dimensions);
+    let mut i: usize = 0;
+    while i < n {
+        let d = kinds[i];
+        let kind = d.kind;
+        let s = sides[i];
+        let range = s.range;
+        let told = check_side(range, kind, i as u64);
+        if told.number != 0 {
+            return told;
+        }
+        i += 1;
+    }
+    Refusal::none()
+}
+
+fn check_side(range: Range, kind: Kind, place: u64) -> Refusal
+    ensures { λ r. ⌜ r ≡ sideRefusal range kind place ⌝ }
+{
+    if range.kind().number() != kind.number() {
+        return Refusal::new(Refusal::WINDOW, place);
+    }
+    range.judge().refusal(place)
 }

@@ -1,5 +1,6 @@
 -- The laws that belong to no one function.
 pub mod Little
+pub mod Pairs
 pub mod Tests
 pub mod Sides
 pub mod Worth

@@ -1,9 +1,18 @@
 -- Which number do the bytes at a place of a byte string stand for? Assumes nothing.
 use Prim.Native.Nat.{ℕ, zero, suc, _+_, _*_}
+use mathlib.Core.Bool.{cond}
 use mathlib.Core.List.{List}
-use lib.ListN.{getD}
+use lib.Dec.{leb}
+use lib.ListN.{length, getD}
 
 -- The m bytes from the place `at` on, the lowest first. A byte past the end counts 0.
 unfoldable pub little : List ℕ → ℕ → ℕ → ℕ
 little s at zero = 0
 little s at (suc m) = getD s at 0 + 256 * little s (at + 1) m
+
+-- Two numbers of m bytes each, one after the other, as the ends of a range stand. Where their bytes are not all there, each counts 0.
+unfoldable pub firstOfTwo : List ℕ → ℕ → ℕ → ℕ
+firstOfTwo s at m = cond (leb (at + (m + m)) (length s)) (little s at m) 0
+
+unfoldable pub secondOfTwo : List ℕ → ℕ → ℕ → ℕ
+secondOfTwo s at m = cond (leb (at + (m + m)) (length s)) (little s (at + m) m) 0

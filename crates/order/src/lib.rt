@@ -6,7 +6,7 @@ ghost use lib.ListN.{length};
 ghost use lib.Ieee.{binary32, binary64, toBits, ofBits, nanBits};
 ghost use mir.Syntax.{w32, w64};
 ghost use mir.Val.{toZ, ofZ};
-ghost use Rattle.order.specs.Little.{little};
+ghost use Rattle.order.specs.Little.{little, firstOfTwo, secondOfTwo};
 ghost use Rattle.order.specs.Key.{floatAtMost, signedAtMost};
 
 // The four bytes at a place. A byte past the end counts 0.
@@ -128,6 +128,50 @@ pub fn f64_is_nan(x: f64) -> bool
     ensures { λ r. ⌜ r ≡ nanBits binary64 (toBits binary64 x) ⌝ }
 {
     x != x
+}
+
+// The two ends of a range.
+pub struct Pair32 {
+    pub low: u32,
+    pub high: u32,
+}
+
+pub struct Pair64 {
+    pub low: u64,
+    pub high: u64,
+}
+
+// Two numbers of four bytes, one after the other. Where their eight bytes are not all there, both count 0: with nothing else to do there,
+// a caller's loop takes the reads in whole.
+pub fn pair32_at(s: &[u8], at: usize) -> Pair32
+    ensures { λ r. ⌜ (r .low ≡ firstOfTwo (now (s .entry)) at 4) × (r .high ≡ secondOfTwo (now (s .entry)) at 4) ⌝ }
+{
+    let n = s.len();
+    if at <= n {
+        if 8 <= n - at {
+            return Pair32 {
+                low: four(s, at),
+                high: four(s, at + 4),
+            };
+        }
+    }
+    Pair32 { low: 0, high: 0 }
+}
+
+// Two numbers of eight bytes, likewise.
+pub fn pair64_at(s: &[u8], at: usize) -> Pair64
+    ensures { λ r. ⌜ (r .low ≡ firstOfTwo (now (s .entry)) at 8) × (r .high ≡ secondOfTwo (now (s .entry)) at 8) ⌝ }
+{
+    let n = s.len();
+    if at <= n {
+        if 16 <= n - at {
+            return Pair64 {
+                low: eight(s, at),
+                high: eight(s, at + 8),
+            };
+        }
+    }
+    Pair64 { low: 0, high: 0 }
 }
 
 // All four bytes are there. With one `let` a byte this compiles to one load.

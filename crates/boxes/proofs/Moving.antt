@@ -1,0 +1,67 @@
+-- A box that starts elsewhere: the same is told of its ranges, at places moved by its start. Moving keeps which of two refuses first, so it
+-- goes over from each range to all of them.
+-- Assumes nothing.
+use mathlib.Core.Path.{_≡_, refl, sym, _∙_}
+use mathlib.Core.Bool.{Bool, true, false}
+use mathlib.Core.List.{List}
+use Prim.Native.Nat.{ℕ, _+_}
+use native.Mathlib.Nat.{zero-add}
+use lib.Dec.{eqb}
+use borrow.Author.Tests.{eq-eqb, ne-eqb, eqb-false}
+use Rattle.answers.specs.Refusals.{refusal, none}
+use Rattle.answers.specs.Runs.{pick}
+use Rattle.answers.specs.Checks.{otherwise}
+use Rattle.answers.specs.declared.Refusal.{Refusal}
+use Rattle.answers.proofs.Runs.{over-map, over-ext}
+use Rattle.answers.proofs.Checks.{each-clear, all-clear}
+use Rattle.boxes.specs.declared.Dimension.{Dimension}
+use Rattle.boxes.specs.declared.Judged.{Judged}
+use Rattle.boxes.specs.declared.Judged.the-variants.{Sound, NotANumber, Reversed}
+use Rattle.boxes.specs.Description.{kindAt, sideStart}
+use Rattle.boxes.specs.Ranges.{judgedAt, judgedRefusal}
+use Rattle.boxes.specs.Boxes.{rangesRefusal}
+use Rattle.boxes.proofs.Walking.{toldAt}
+
+-- the same number, at a place moved by a start; what does not refuse stays
+abbrev pub moved : ℕ → Refusal → Refusal
+moved start r = pick (eqb (r .number) 0) r (refusal (r .number) (start + r .place))
+
+module _ (start : ℕ) where
+  pub moved-clear : (r : Refusal) → r .number ≡ 0 → moved start r ≡ r
+  moved-clear r h = rw (eq-eqb (r .number) 0 h)
+
+  pub moved-some : (r : Refusal) → (r .number ≡ 0 → ⊥) → moved start r ≡ refusal (r .number) (start + r .place)
+  moved-some r h = rw (ne-eqb (r .number) 0 h)
+
+  pub moved-otherwise : (r s : Refusal) → moved start (otherwise r s) ≡ otherwise (moved start r) (moved start s)
+  moved-otherwise r s = go (eqb (r .number) 0) refl
+    where
+      go : (t : Bool) → eqb (r .number) 0 ≡ t → moved start (otherwise r s) ≡ otherwise (moved start r) (moved start s)
+      go true e = rw e (rw e)
+      go false e = rw e (rw e)
+
+  moved-told : (j : Judged) (place : ℕ) → moved start (judgedRefusal j (0 + place)) ≡ judgedRefusal j (start + place)
+  moved-told (Sound r) place = refl
+  moved-told NotANumber place = rw zero-add
+  moved-told Reversed place = rw zero-add
+
+-- a range that is not refused says nothing at all
+told-clear : (j : Judged) (place : ℕ) → judgedRefusal j place .number ≡ 0 → judgedRefusal j place ≡ none
+told-clear (Sound r) place h = refl
+told-clear NotANumber place h = absurd (eqb-false 8 0 refl h)
+told-clear Reversed place h = absurd (eqb-false 9 0 refl h)
+
+module _ (kinds : List Dimension) (m : ℕ) (bytes : List ℕ) (start : ℕ) where
+  pub ranges-moved : rangesRefusal kinds m bytes start ≡ moved start (rangesRefusal kinds m bytes 0)
+  unfolding rangesRefusal
+  ranges-moved =
+      sym (
+      over-map otherwise none otherwise none (moved start) refl (moved-otherwise start) (toldAt kinds bytes 0) 0 m
+      ∙ over-ext otherwise none _ _ 0 m (λ i a b. moved-told start (judgedAt (kindAt kinds i) bytes (sideStart kinds i)) (sideStart kinds i))
+      )
+
+  pub ranges-none : rangesRefusal kinds m bytes start .number ≡ 0 → rangesRefusal kinds m bytes start ≡ none
+  unfolding rangesRefusal
+  ranges-none h =
+      all-clear (toldAt kinds bytes start) 0 m
+      (λ i a b. told-clear (judgedAt (kindAt kinds i) bytes (sideStart kinds i)) (start + sideStart kinds i) (each-clear (toldAt kinds bytes start) 0 m h i a b))

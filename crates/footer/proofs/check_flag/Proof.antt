@@ -1,0 +1,12 @@
+-- `footer::check_flag` meets its contract: its test is the definition's. Assumes nothing.
+use borrow.Author.Needs.{needs}
+use Rattle.footer.specs.Checks.{noFlag}
+use Rattle.footer.proofs.check_flag.Statement.{statement}
+use Rattle.footer.proofs.check_flag.Tie as tie
+
+returns : tie.Need-returns
+unfolding noFlag
+returns c = cc
+
+pub check-flag-spec : {M : Type 1} → statement M
+check-flag-spec = tie.close (tie.spec (λ c κs. search needs) (λ c κs. search needs) returns)

@@ -1,0 +1,5 @@
+-- The laws that belong to no one function.
+pub mod Header
+pub mod Entries
+pub mod Extents
+pub mod Examples

@@ -1,0 +1,32 @@
+-- `lists::breaks` meets its contract: each arm is the definition's case, the two tests of an offset in the other order. For sizes, the
+-- test comes before the addition: what is left of 2^64 - 1 is below the entry exactly where the sum with it is above 2^64 - 1.
+-- Assumes nothing.
+use mathlib.Core.Path.{sym}
+use mathlib.Core.Bool.{or-true, or-false}
+use lib.Dec.{leb}
+use Prim.Native.Nat.{_-_, _^_}
+use native.Mathlib.Omega.{arith}
+use borrow.Author.Needs.{needs}
+use borrow.Author.Tests.{le-leb, lt-leb}
+use Rattle.lists.proofs.Entries.{room}
+use Rattle.lists.proofs.breaks.Statement.{statement}
+use Rattle.lists.proofs.breaks.Tie as tie
+
+returns : tie.Need-returns
+returns c =
+    let a = c .before .before .before .before .args in
+    let rule = c .before .before .rule .given in
+    rw (rule .1, le-leb (rule .0 .0) (a .x) (omega arith)) (sym (or-true (leb (a .x) (a .carried))))
+
+returns-2 : tie.Need-returns-2
+returns-2 c =
+    let a = c .before .before .before .before .args in
+    let rule = c .before .before .rule .given in
+    rw (rule .1, lt-leb (rule .0 .0) (a .x) (omega arith)) (sym (or-false (leb (a .x) (a .carried))))
+
+returns-3 : tie.Need-returns-3
+returns-3 c = rw (c .enum-told .given .1) (room (2 ^ 64 - 1) (c .before .before .args .carried) (c .before .before .args .x) (omega arith))
+
+pub breaks-spec : {M : Type 1} → statement M
+breaks-spec =
+    tie.close (tie.spec (λ c. search needs) (λ c. search needs) (λ c. search needs) returns returns-2 returns-3)

@@ -1,0 +1,30 @@
+-- What is a list of tile offsets or of tile sizes, and when is it refused before and in its entries?
+-- Assumes nothing.
+use Prim.Native.Nat.{ℕ, _+_, _*_}
+use mathlib.Core.Bool.{Bool, not}
+use mathlib.Core.List.{List, [], _∷_}
+use lib.Dec.{ltb, eqb}
+use lib.ListN.{length}
+use Rattle.answers.specs.Refusals.{bytes, tiles, count}
+use Rattle.answers.specs.Checks.{check, first, each}
+use Rattle.answers.specs.declared.Refusal.{Refusal}
+use Rattle.boxes.specs.Limits.{leastTiles, mostTiles, outside}
+use Rattle.order.specs.Little.{little}
+
+-- "Both bodies: u64 count, then that many u64." Entry i, from 0.
+abbrev pub entry : List ℕ → ℕ → ℕ
+entry s i = little s (8 + 8 * i) 8
+
+-- "Checks: 10; fewer than 8 bytes, 2; 17; not 8 + 8n bytes, 2", for entries of any width
+unfoldable pub listRefusal : ℕ → ℕ → List ℕ → Refusal
+listRefusal n width s = first (
+    check (outside leastTiles mostTiles n) tiles 0
+    ∷ check (ltb (length s) 8) bytes (length s)
+    ∷ check (not (eqb (little s 0 8) n)) count 0
+    ∷ check (not (eqb (length s) (8 + width * n))) bytes (length s)
+    ∷ []
+    )
+
+-- "then entries in order, and the first entry that breaks a rule ends the check": a rule says of i whether entry i breaks it
+unfoldable pub entriesRefusal : (ℕ → Bool) → ℕ → ℕ → List ℕ → Refusal
+entriesRefusal breaks number n s = first (listRefusal n 8 s ∷ each (λ i. check (breaks i) number (8 + 8 * i)) 0 n ∷ [])

@@ -1,0 +1,24 @@
+-- When are tile sizes refused, and what do they add up to?
+-- Assumes nothing.
+use Prim.Native.Nat.{ℕ, _+_, _-_, _^_}
+use mathlib.Core.Bool.{Bool}
+use mathlib.Core.List.{List}
+use lib.Dec.{ltb, eqb}
+use Rattle.answers.specs.Refusals.{sum as sumNumber}
+use Rattle.answers.specs.Runs.{pick, sum}
+use Rattle.answers.specs.declared.Refusal.{Refusal}
+use Rattle.lists.specs.declared.TileSizes.{TileSizes}
+use Rattle.lists.specs.Lists.{entry, entriesRefusal}
+
+-- "Sizes: only 20": with this entry they add up past 2^64 - 1
+abbrev pub sizeBreaks : (ℕ → ℕ) → ℕ → Bool
+sizeBreaks size i = ltb (2 ^ 64 - 1) (sum size 0 (i + 1))
+
+unfoldable pub sizesRefusal : ℕ → List ℕ → Refusal
+sizesRefusal n s = entriesRefusal (sizeBreaks (entry s)) sumNumber n s
+
+-- "the answer is their sum": a refusal has 0 there
+abbrev pub sizesAnswer : ℕ → List ℕ → TileSizes
+sizesAnswer n s =
+    let r = sizesRefusal n s in
+    record { number = r .number; place = r .place; sum = pick (eqb (r .number) 0) (sum (entry s) 0 n) 0 }

@@ -1,0 +1,353 @@
+"""Writes the cases that the program `examples` runs, and what it must answer, worked out by `rules`.
+
+    cases.py DIR     writes DIR/stdin and DIR/stdout
+"""
+
+import pathlib
+import struct
+import sys
+
+import pieces
+import rules
+from pieces import u64
+from rules import Description, Refused
+
+NAN32 = struct.pack("<I", 0x7FC00000)
+NAN64 = struct.pack("<Q", 0x7FF8000000000001)
+MOST = 2**64 - 1
+LISTS = ["file_sizes", "file_var_sizes", "file_validity_sizes", "tile_offsets", "var_offsets", "var_sizes"]
+LISTS += ["validity", "mins", "maxes", "sums", "null_counts"]
+
+
+class Cases:
+    def __init__(self):
+        self.asked, self.answers = [], []
+
+    def add(self, what, d, numbers, first, second, answer):
+        kinds = [rules.KINDS.index(k) for k in d.kinds] + [3] * (4 - len(d.kinds))
+        numbers = list(numbers) + [0] * (3 - len(numbers))
+        row = [what, d.dimensions] + kinds[:4] + [d.fields, d.capacity] + numbers + [len(first)]
+        case = b"".join(map(u64, row)) + first + second
+        self.asked.append(u64(len(case) + 8) + case)
+        self.answers.append(b"".join(str(x).encode() + b"\t" for x in [what]) + answer + b"\n")
+
+    def write(self, folder):
+        (folder / "stdin").write_bytes(b"".join(self.asked))
+        (folder / "stdout").write_bytes(b"".join(self.answers))
+
+
+def text(numbers):
+    return b"".join(b"%d\t" % x for x in numbers)
+
+
+def footer_answer(d, file_size, data, tile):
+    try:
+        f = rules.footer(d, file_size, data)
+    except Refused as r:
+        return text([r.number, r.place] + [0] * 12 + [0] * (4 * len(LISTS)) + [0, 0])
+    numbers = [0, 0, f["version"], f["name_size"], f["dense"], f["null_domain"], f["tiles"], f["last_cells"]]
+    numbers += [f["timestamps"], f["deletes"], f["rtree"], f["fragment"], f["conditions"], f["length"]]
+    for name in LISTS:
+        entries = f[name] + [0] * (64 - d.fields)
+        numbers += [entries[0], entries[1], entries[2], entries[63]]
+    numbers.append(rules.cells(f["tiles"], f["last_cells"], d.capacity, tile))
+    numbers.append(rules.total_cells(f["tiles"], f["last_cells"], d.capacity))
+    return text(numbers)
+
+
+def name_answer(d, file_size, data):
+    try:
+        name = rules.footer(d, file_size, data)["name"]
+    except Refused:
+        name = b""
+    return text([len(name)]) + name
+
+
+def footer_cases(cases):
+    one = Description(["int32"], 1, 32)
+    two = Description(["int32", "int32"], 1, 32)
+    mixed = Description(["int32", "float64", "int64", "float32"], 2, 1000)
+    many = Description(["float32"], 64, 10**9)
+    zero = [(-5, 24)]
+
+    def ask(d, data, file_size, tile=0):
+        cases.add(1, d, [file_size, tile], data, b"", footer_answer(d, file_size, data, tile))
+
+    def ask_changed(d, domain, **changes):
+        f = pieces.Footer(d, domain)
+        for name, value in changes.items():
+            setattr(f, name, value)
+        ask(d, f.data(), f.file_size)
+
+    # accepted: every number, zero fill past N, the ends of the tiles, names, kinds past D
+    worked = pieces.Footer(two, [(0, 9), (0, 9)], name=b"four")
+    assert worked.total() == 172 and worked.length == 164
+    for tile in (0, 1, 2, 3, MOST):
+        ask(two, worked.data(), worked.file_size, tile)
+    full = [(-(2**31), 2**31 - 1)]
+    ask_changed(one, full, tiles=1, last_cells=32)
+    ask_changed(one, zero, tiles=65536)
+    ask_changed(mixed, [(0, 24), (-1.5, float("inf")), (-(2**63), 2**63 - 1), (0.0, -0.0)])
+    f = pieces.Footer(many, [(float("-inf"), 0.5)], name=b"\0" * 255)
+    ask(many, f.data(), f.file_size, 2)
+    for d, f in ((two, worked), (many, f)):
+        for file_size in (f.file_size, f.total() - 1):
+            cases.add(2, d, [file_size], f.data(), b"", name_answer(d, file_size, f.data()))
+
+    # 1
+    data = pieces.Footer(one, zero).data()
+    for d in (
+        Description(["int32"], 1, 32, 0), Description(["int32"], 1, 32, 5), Description(["int32"], 0, 32),
+        Description(["int32"], 65, 32), Description(["int32"], 1, 0), Description(["int32"], 1, 10**9 + 1),
+        Description(["int32"], MOST, MOST, MOST),
+    ):
+        ask(d, data, 10000)
+
+    # 2: too few, unlike the total, F below it, the length field
+    f = pieces.Footer(one, zero)
+    for cut in (b"", f.data()[:11], f.data()[:12], f.data()[:-1], f.data() + b"\0"):
+        ask(one, cut, f.file_size)
+    ask(one, f.data(), f.total() - 1)
+    ask_changed(one, zero, length=f.total() - 7)
+    ask_changed(one, zero, length=f.total())
+    # F equal to the total is no 2: every offset is then 12
+    ask(one, f.data(), f.total())
+
+    # 3, 4: also before the total's 2
+    for version in (15, 22, 2**32 - 1):
+        ask_changed(one, zero, version=version)
+    ask(one, pieces.u32(15) + bytes(8), 10000)
+    for size in (0, 256, MOST, 5, 7):
+        ask_changed(one, zero, name_size=size)
+
+    # 5, 6, 7
+    for name in ("dense", "null_domain", "timestamps", "deletes"):
+        for value in (1, 2, 255):
+            ask_changed(one, zero, **{name: value})
+
+    # 8, 9: each end, each dimension, NaN before reversed, the first dimension first
+    for low, high in ((NAN32, 1.0), (1.0, NAN32), (2.0, 1.0), (NAN32, NAN32)):
+        ask_changed(Description(["int64", "float32"], 1, 32), [(0, 1), (low, high)])
+    for low, high in ((NAN64, 1.0), (1.0, NAN64), (float("inf"), float("-inf"))):
+        ask_changed(Description(["float64", "int64"], 1, 32), [(low, high), (1, 0)])
+    ask_changed(one, [(1, 0)])
+    ask_changed(one, [(0, -1)])
+    ask_changed(Description(["int64"], 1, 32), [(0, -(2**63))])
+
+    # 10, 11
+    for tiles in (0, 65537, MOST):
+        ask_changed(one, zero, tiles=tiles)
+    for last in (0, 33, MOST):
+        ask_changed(one, zero, last_cells=last)
+
+    # 12: first and last entry of each list, at the limit and below it
+    d = Description(["int32"], 2, 32)
+    limit = 1000
+    for value in (limit, limit - 1, MOST):
+        for name in ("rtree", "fragment", "conditions"):
+            ask_changed(d, zero, **{name: value})
+    for a in range(8):
+        for i in range(2):
+            f = pieces.Footer(d, zero)
+            f.offsets[a][i] = limit
+            ask(d, f.data(), f.file_size)
+    f = pieces.Footer(d, zero)
+    f.sizes = [[MOST, 0], [0, MOST], [MOST, MOST]]
+    ask(d, f.data(), f.file_size)
+
+    # several faults: the first check decides
+    ask_changed(one, [(1, 0)], dense=2, tiles=0)
+    ask_changed(one, [(1, 0)], tiles=0)
+    ask_changed(one, zero, tiles=0, last_cells=0, length=0)
+    ask_changed(one, zero, rtree=MOST, length=0)
+
+
+def list_cases(cases):
+    none = Description([], 0, 0)
+
+    def ask(n, size, data, tile=0):
+        try:
+            answer = [0, 0, len(rules.offsets(n, size, data))]
+            extents = rules.extents(n, size, data)
+            answer += extents[tile] if tile < n else (0, 0)
+        except Refused as r:
+            answer = [r.number, r.place, 0, 0, 0]
+        cases.add(3, none, [n, size, tile], data, b"", text(answer))
+
+    def ask_sizes(n, data):
+        try:
+            answer = [0, 0, rules.sizes(n, data)]
+        except Refused as r:
+            answer = [r.number, r.place, 0]
+        cases.add(4, none, [n], data, b"", text(answer))
+
+    good = pieces.entries([0, 100, 250])
+    for tile in (0, 1, 2, 3, MOST):
+        ask(3, 300, good, tile)
+    for offsets, size in (
+        ([0, 100, 300], 300), ([0, 100, 299], 300), ([0, 100, 100], 300), ([0, 100, 99], 300), ([1, 100, 200], 300),
+        ([0, 300, 100], 300), ([0, 1, 2], 0), ([0, 1, 2], 3), ([0, MOST - 1, MOST], MOST), ([MOST, 0, 1], MOST),
+    ):
+        for tile in (0, 2):
+            ask(3, size, pieces.entries(offsets), tile)
+    ask(1, 1, pieces.entries([0]))
+    ask(1, 0, pieces.entries([0]))
+    for list_case in (lambda n, data: ask(n, 300, data), ask_sizes):
+        for n in (0, 65537, MOST):
+            list_case(n, good)
+        for n in (2, 4):
+            list_case(n, good)
+        for data in (b"", good[:7], good[:8], good[:-1], good + b"\0", good[:8] + b"\0" * 8, pieces.entries([0, 1, 2], 2)):
+            list_case(3, data)
+    for sizes in ([1, 2, 3], [0, 0, 0], [MOST, 0, 0], [MOST, 0, 1], [MOST - 5, 5, 0], [MOST - 5, 6, 0], [1, MOST, MOST]):
+        ask_sizes(3, pieces.entries(sizes))
+
+
+def pattern(kind, x):
+    return int.from_bytes(pieces.end(kind, x), "little")
+
+
+def window_bytes(kinds, window, dimensions=None):
+    row = [len(kinds) if dimensions is None else dimensions]
+    for i in range(4):
+        if i < len(kinds):
+            row += [rules.KINDS.index(kinds[i]), pattern(kinds[i], window[i][0]), pattern(kinds[i], window[i][1])]
+        else:
+            row += [2, 0x7FC00000, 0x7FC00000]
+    return b"".join(map(u64, row))
+
+
+def numbers_of(kinds, window):
+    """The window with the numbers that its ends stand for."""
+    return [tuple(struct.unpack(rules.FORMATS[k], pieces.end(k, x))[0] for x in pair) for k, pair in zip(kinds, window)]
+
+
+def tree_cases(cases):
+    one = Description(["int32"], 1, 32)
+    leaves = [[(0, 4)], [(10, 14)], [(20, 24)]]
+    tree_a = pieces.tree(["int32"], leaves, 2)
+    assert len(tree_a) == 80
+
+    def ask(d, n, body, kinds, window, room=8, dimensions=None):
+        given = numbers_of(kinds, window)
+        buffer = [7] * 8
+        try:
+            if dimensions is not None and dimensions != len(kinds):
+                rules.Description.check(d)
+                raise Refused(19, 0)
+            found, looked = rules.query(d, n, body, kinds, given)
+            answer = [0, 0, len(found), looked]
+            room = min(room, 8)
+            buffer[: min(room, len(found))] = found[:room]
+        except Refused as r:
+            answer = [r.number, r.place, 0, 0]
+        cases.add(6, d, [n, room], body, window_bytes(kinds, window, dimensions), text(answer + buffer))
+
+    def ask_open(d, foot, body):
+        try:
+            r = rules.open_tree(d, foot.file_size, foot.data(), body)
+            answer = [0, 0, 0, r["tiles"], r["fanout"], r["levels"]]
+        except Refused as r:
+            answer = [r.number, r.place, r.which, 0, 0, 0]
+        cases.add(5, d, [foot.file_size], foot.data(), body, text(answer))
+
+    # tree A
+    for window in ((12, 21), (5, 9), (30, 40), (4, 4), (0, 24), (-(2**31), 2**31 - 1), (24, 24), (-9, 0)):
+        for room in (0, 1, 2, 8):
+            ask(one, 3, tree_a, ["int32"], [window], room)
+    foot = pieces.Footer(one, [(0, 24)])
+    ask_open(one, foot, tree_a)
+    ask_open(one, foot, tree_a[:72] + pieces.box(["int32"], [(20, 25)]))
+    ask_open(one, pieces.Footer(one, [(1, 24)]), tree_a)
+    ask_open(one, pieces.Footer(one, [(0, 23)]), tree_a)
+    ask_open(one, pieces.Footer(one, [(-5, 100)]), tree_a)
+    # wider parents than the children need
+    ask_open(one, pieces.Footer(one, [(-5, 100)]), tree_a[:32] + pieces.box(["int32"], [(0, 20), (15, 24)]) + tree_a[48:])
+
+    # the shape, asked and opened
+    def ask_both(body, n=3):
+        ask(one, n, body, ["int32"], [(12, 21)])
+        f = pieces.Footer(one, [(0, 24)])
+        f.tiles = n
+        ask_open(one, f, body)
+
+    for cut in (0, 7, 8, 15, 16, 79):
+        ask_both(tree_a[:cut])
+    ask_both(tree_a + b"\0")
+    for f in (0, 1, 3, 1024, 1025, 2**32 - 1):
+        ask_both(pieces.u32(f) + tree_a[4:])
+    for level_number in (0, 2, 4, 2**32 - 1):
+        ask_both(tree_a[:4] + pieces.u32(level_number) + tree_a[8:])
+    for at in (8, 24, 48):
+        for count in (0, 4, MOST, 2**32 + rules.number(tree_a, at, 8)):
+            ask_both(tree_a[:at] + u64(count) + tree_a[at + 8 :])
+    for n in (1, 2, 4, 5, 65536):
+        ask_both(tree_a, n)
+    for n in (0, 65537, MOST):
+        ask(one, n, tree_a, ["int32"], [(12, 21)])
+    single = pieces.tree(["int32"], [[(3, 9)]], 7)
+    assert len(single) == 24
+    for body in (single, single[:23], single + b"\0"):
+        ask_both(body, 1)
+
+    # every box: NaN and reversed in each dimension, not inside its parent
+    mixed = Description(["float32", "int64"], 1, 32)
+    boxes = [[(float(i), i + 1.5), (-i, 2 * i)] for i in range(5)]
+    body = pieces.tree(mixed.kinds, boxes, 3)
+    foot = pieces.Footer(mixed, [(float("-inf"), float("inf")), (-100, 100)], tiles=5)
+    ask_open(mixed, foot, body)
+    _, counts, starts = rules.check_shape(mixed, 5, body)
+    for start, count in zip(starts, counts):
+        for k in range(count):
+            at = start + 24 * k
+            ask_open(mixed, foot, body[:at] + NAN32 + body[at + 4 :])
+            ask_open(mixed, foot, body[: at + 4] + NAN32 + body[at + 8 :])
+            ask_open(mixed, foot, body[:at] + pieces.box(["float32"], [(2.0, 1.0)]) + body[at + 8 :])
+            ask_open(mixed, foot, body[: at + 8] + pieces.box(["int64"], [(1, 0)]) + body[at + 24 :])
+            ask_open(mixed, foot, body[: at + 8] + pieces.box(["int64"], [(-101, 101)]) + body[at + 24 :])
+            ask_open(mixed, foot, body[:at] + pieces.box(["float32"], [(-0.0, 0.0)]) + body[at + 8 :])
+            # asked as it is: shape-right bytes that opening refuses
+            broken = body[:at] + NAN32 + body[at + 4 :]
+            ask(mixed, 5, broken, mixed.kinds, [(0.0, 9.0), (-9, 9)])
+            ask(mixed, 5, body[:at] + pieces.box(["float32"], [(2.0, 1.0)]) + body[at + 8 :], mixed.kinds, [(0.0, 9.0), (-9, 9)])
+
+    # the window: 19 for the number, then per dimension 19, 8, 9
+    inf = float("inf")
+    ask(mixed, 5, body, ["float32"], [(0.0, 1.0)])
+    ask(mixed, 5, body, ["float32", "int64", "int64"], [(0.0, 1.0), (0, 1), (0, 1)])
+    for kinds, window in (
+        (["float64", "int64"], [(0.0, 1.0), (0, 1)]), (["float32", "int32"], [(0.0, 1.0), (0, 1)]),
+        (["int32", "int64"], [(1, 0), (0, 1)]), (["float32", "int32"], [(NAN32, 1.0), (0, 1)]),
+        (["float32", "int32"], [(1.0, 0.5), (0, 1)]), (["float32", "int64"], [(1.0, NAN32), (1, 0)]),
+        (["float32", "int64"], [(-inf, inf), (1, 0)]), (["float32", "int64"], [(-inf, inf), (0, 1)]),
+        (["float32", "int64"], [(0.0, -0.0), (-(2**63), 2**63 - 1)]), (["float32", "int64"], [(inf, inf), (0, 0)]),
+    ):
+        ask(mixed, 5, body, kinds, window)
+    # order of the checks
+    ask(Description(["int32"], 1, 0), 0, b"", ["int32"], [(1, 0)])
+    ask(one, 0, b"", ["int32"], [(1, 0)])
+    ask(one, 3, b"", ["int32"], [(1, 0)])
+    ask(one, 3, b"", ["int32"], [(0, 1)])
+
+    # short last rows, all kinds, infinities
+    for kinds in (["int32"], ["int64"], ["float32"], ["float64"], ["int32", "int64", "float32", "float64"]):
+        d = Description(kinds, 1, 32)
+        for n, f in ((1, 2), (2, 2), (7, 3), (10, 10), (11, 10)):
+            leaves = [[(i - 3, i - 2) if k.startswith("int") else (i - 3.5, i - 1.5) for k in kinds] for i in range(n)]
+            b = pieces.tree(kinds, leaves, f)
+            ask_open(d, pieces.Footer(d, [(-9, 99)] * len(kinds), tiles=n), b)
+            for low, high in ((-1, 1), (n - 3, n - 3), (-99, 99), (n + 9, n + 9)):
+                ask(d, n, b, kinds, [(low, high)] * len(kinds))
+
+
+def main():
+    cases = Cases()
+    footer_cases(cases)
+    list_cases(cases)
+    tree_cases(cases)
+    cases.write(pathlib.Path(sys.argv[1]))
+    sys.stderr.write(f"{len(cases.asked)} cases, {sum(map(len, cases.asked))} bytes\n")
+
+
+if __name__ == "__main__":
+    main()
