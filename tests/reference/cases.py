@@ -340,11 +340,37 @@ def tree_cases(cases):
                 ask(d, n, b, kinds, [(low, high)] * len(kinds))
 
 
+def fixture_cases(cases):
+    """The fixture files through the library: opening, each window, the lists."""
+    none = Description([], 0, 0)
+    for folder in sorted((pathlib.Path(__file__).parent.parent / "fixtures").iterdir()):
+        if not (folder / "about").exists():
+            continue
+        kinds, fields, capacity, file_size, size = (folder / "about").read_text().splitlines()
+        d = Description(kinds.split(), int(fields), int(capacity))
+        foot, body = (folder / "footer").read_bytes(), (folder / "tree").read_bytes()
+        r = rules.open_tree(d, int(file_size), foot, body)
+        n = r["tiles"]
+        cases.add(5, d, [int(file_size)], foot, body, text([0, 0, 0, n, r["fanout"], r["levels"]]))
+        cases.add(1, d, [int(file_size), n - 1], foot, b"", footer_answer(d, int(file_size), foot, n - 1))
+        offsets, sizes = (folder / "offsets").read_bytes(), (folder / "sizes").read_bytes()
+        cases.add(3, none, [n, int(size), n - 1], offsets, b"", text([0, 0, n, *rules.extents(n, int(size), offsets)[-1]]))
+        cases.add(4, none, [n], sizes, b"", text([0, 0, int(size)]))
+        for line in (folder / "answers").read_text().splitlines():
+            ends, tiles, looked, _ = line.split("\t")
+            numbers = [int(x) if k.startswith("int") else float(x) for k, x in zip([k for k in d.kinds for _ in (0, 1)], ends.split())]
+            window = list(zip(numbers[::2], numbers[1::2]))
+            tiles = [int(t) for t in tiles.split()]
+            buffer = (tiles + [7] * 8)[:8]
+            cases.add(6, d, [n, 8], body, window_bytes(d.kinds, window), text([0, 0, len(tiles), int(looked)] + buffer))
+
+
 def main():
     cases = Cases()
     footer_cases(cases)
     list_cases(cases)
     tree_cases(cases)
+    fixture_cases(cases)
     cases.write(pathlib.Path(sys.argv[1]))
     sys.stderr.write(f"{len(cases.asked)} cases, {sum(map(len, cases.asked))} bytes\n")
 

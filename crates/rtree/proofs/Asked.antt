@@ -1,4 +1,4 @@
--- What does a query promise? One that isn't refused has passed every check (`Passed`): so the window has the description's kinds, what the code sees
+-- What does a query promise? One that isn't refused has passed every check (`Cleared`): so the window has the description's kinds, what the code sees
 -- is what the definition says (`seen-meeting`), and the tree has the right shape. All that `query` promises then follows from what it answers
 -- and leaves in the buffer (`promised`), by the tree's laws; over an accepted tree a box that meets has a parent that meets (`contained`).
 -- Assumes nothing.
@@ -38,7 +38,7 @@ use Rattle.rtree.proofs.Root.{comes-to, root-row}
 use Rattle.rtree.proofs.Nested.{nested}
 
 -- what a query that isn't refused has passed
-pub record Passed (d : Description) (n : ℕ) (body : List ℕ) (w : Window) : Type 0 where
+pub record Cleared (d : Description) (n : ℕ) (body : List ℕ) (w : Window) : Type 0 where
   pub described : Kept d
   pub windowed : windowRefusal d w .number ≡ 0
   pub sizes : Sizes n (fanoutOf body)
@@ -76,7 +76,7 @@ module _ (d : Description) (n : ℕ) (body : List ℕ) (w : Window) where
       let tiles = passed-asked d n w a .1 in
       passed-front n body (tiles .0) (tiles .1) b
 
-  pub passed : queryRefusal d n body w .number ≡ 0 → Passed d n body w
+  pub passed : queryRefusal d n body w .number ≡ 0 → Cleared d n body w
   unfolding queryRefusal
   passed h =
       let a = both-clear (askedRefusal d n w) (shapeRefusal n (boxBytes d) body) h in
@@ -92,7 +92,7 @@ module _ (d : Description) (n : ℕ) (body : List ℕ) (w : Window) where
       }
 
   -- the root's level is there
-  pub some-level : Passed d n body w → 1 ≤ levelsOf body
+  pub some-level : Cleared d n body w → 1 ≤ levelsOf body
   unfolding levels
   some-level p = omega (arith, p .deep)
 
@@ -125,11 +125,10 @@ module _ (d : Description) (n : ℕ) (body : List ℕ) (w : Window) where
   unfolding seen meeting
   seen-meeting h = fun-ext (λ j. fun-ext (λ k. window-meets d w h (boxAt n (boxBytes d) body j k)))
 
-  shaped : Passed d n body w → {table : List ℕ} → table ≡ levelTable n (fanoutOf body) → Shaped body table (planned d n body)
+  shaped : Cleared d n body w → {table : List ℕ} → table ≡ levelTable n (fanoutOf body) → Shaped body table (planned d n body)
   shaped p t = record {
     sizes = p .sizes;
     wide = p .described .some-bytes;
-    narrow = p .described .most-bytes;
     whole = p .whole;
     table = t;
   }
@@ -173,7 +172,7 @@ module _ (d : Description) (n : ℕ) (body : List ℕ) (w : Window) where
       go false e h = h
 
   -- the code's walk: its row has a `Row`, and it comes to what the definition says
-  module _ {p : Plan} {table : List ℕ} {depth : ℕ} (pass : Passed d n body w) (same : p ≡ planned d n body) (tabled : table ≡ levelTable n (fanoutOf body))
+  module _ {p : Plan} {table : List ℕ} {depth : ℕ} (pass : Cleared d n body w) (same : p ≡ planned d n body) (tabled : table ≡ levelTable n (fanoutOf body))
       (deep : depth ≡ levelsOf body - 1) (out : List ℕ) where
     root : depth ≡ height (fanoutOf body) n
     unfolding levels

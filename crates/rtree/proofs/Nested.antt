@@ -65,7 +65,7 @@ module _ (d : Description) (n : ℕ) (body : List ℕ) where
   unfolding innerRefusal
   inside-clear j k h =
       not-false _
-      (check-clear _ refusals.outsideParent (placeOf n (boxBytes d) body j k) (omega arith)
+      (check-clear _ refusals.outsideParent _ (omega arith)
       (both-clear
       (rangesRefusal (d .kinds) (sidesOf (d .dimensions)) (boxAt n (boxBytes d) body j k) (placeOf n (boxBytes d) body j k)) _ h .1))
 

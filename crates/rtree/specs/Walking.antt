@@ -48,7 +48,6 @@ walked body p w j k m s = run (λ i t. visited body p w j i t) k m s
 pub record Shaped (body counts : List ℕ) (p : Plan) : Type 0 where
   pub sizes : Sizes (p .tiles) (p .fanout)
   pub wide : 8 ≤ p .width
-  pub narrow : p .width ≤ 64
   pub whole : length body ≡ bodyBytes (p .fanout) (p .tiles) (p .width)
   pub table : counts ≡ levelTable (p .tiles) (p .fanout)
 

@@ -94,7 +94,7 @@ pub +visit+walk-row-spec : {M : Type 1} → statement M
     (λ c. omega (arith, down-fits (met-at t (c .before) .row)))
     (λ c. down-fits (met-at t (c .before) .row))
     (λ c. omega (arith, first-fits (inner-at t (c .before)), below-small (inner-at t (c .before))))
-    (λ c κs. first-fits (inner-at t (c .before)))
+    (λ c κs. omega (arith, first-fits (inner-at t (c .before))))
     (λ c. omega (arith, start-fits (inner-at t (c .before .before .before .before))))
     (λ c. omega (arith, start-fits (inner-at t (c .before .before .before .before .before))))
     (λ c. omega (arith, start-fits (inner-at t (c .before .before .before .before .before))))
