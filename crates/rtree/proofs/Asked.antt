@@ -31,7 +31,7 @@ use Rattle.rtree.specs.declared.Plan.{Plan}
 use Rattle.rtree.specs.declared.Walk.{Walk}
 use Rattle.rtree.specs.Body.{fanoutOf, levelsOf, boxAt, frontRefusal, levelsRefusal, shapeRefusal}
 use Rattle.rtree.specs.Opening.{Accepted}
-use Rattle.rtree.specs.Query.{askedRefusal, queryRefusal, meeting, lookedAt, foundAt, queryAnswer, queryBuffer, flatCountOf, Lists, Bounded}
+use Rattle.rtree.specs.Query.{askedRefusal, queryRefusal, meeting, lookedAt, foundAt, queryAnswer, queryBuffer, flatCountOf, Lists, Bounded, Promises}
 use Rattle.rtree.specs.Walking.{refusedAnswer, seen, state, walked, Shaped, Row}
 use Rattle.rtree.proofs.Passed.{passed-front, passed-levels}
 use Rattle.rtree.proofs.Root.{comes-to, root-row}
@@ -216,6 +216,17 @@ module _ (d : Description) (n : ℕ) (body : List ℕ) (w : Window) where
 
     promised : (before : List ℕ) {after : List ℕ} → after ≡ queryBuffer d n body w before → Promised d n body w r before after
     promised before left = (told, (left, ((λ a z. tree-lists a z before left), (tree-counts, tree-bounds))))
+
+  -- answer and buffer give all of it
+  pub keeps : {r : Answer} → r ≡ queryAnswer d n body w → (before : List ℕ) {after : List ℕ} → after ≡ queryBuffer d n body w before
+      → Promises d n body w r before after
+  keeps told before left = record {
+    answer = told;
+    buffer = left;
+    listing = λ a z. tree-lists told a z before left;
+    count = tree-counts told;
+    bound = tree-bounds told;
+  }
 
   -- `query` as it refuses, and as it answers what the walk comes to
   pub refusing : {r : Refusal} → r ≡ queryRefusal d n body w → (r .number ≡ 0 → ⊥) → {a : Answer} → a ≡ refusedAnswer r

@@ -7,11 +7,8 @@ use lib.Dec.{eqb}
 use denote.Ref.{now}
 use Rattle.answers.specs.Runs.{pick}
 use Rattle.boxes.specs.declared.Description.{Description}
-use Rattle.boxes.specs.declared.Window.{Window}
-use Rattle.rtree.specs.declared.Answer.{Answer}
 use Rattle.rtree.specs.declared.OpenTree.{OpenTree}
 use Rattle.rtree.specs.Opening.{openAnswer}
-use Rattle.rtree.specs.Query.{queryAnswer, queryBuffer}
 
 module _ (d : Description) (F : ℕ) (footer body : List ℕ) where
   -- n, which is 0 where opening is refused
@@ -23,13 +20,6 @@ module _ (d : Description) (F : ℕ) (footer body : List ℕ) where
 
   abbrev pub Holds : OpenTree → Type 0
   Holds t = (now (t .body) ≡ heldBody) × ((t .tiles ≡ heldTiles) × (t .description ≡ d))
-
-  -- and what it answers and leaves in a buffer when it is asked
-  abbrev pub heldAnswer : Window → Answer
-  heldAnswer w = queryAnswer d heldTiles heldBody w
-
-  abbrev pub heldBuffer : Window → List ℕ → List ℕ
-  heldBuffer w out = queryBuffer d heldTiles heldBody w out
 
 -- all of a body, or nothing of it where n is 0
 abbrev pub keptPart : List ℕ → ℕ → List ℕ

@@ -21,6 +21,7 @@ use Rattle.tree.specs.Walk as walk
 use Rattle.tree.specs.Flat as flat
 use Rattle.rtree.specs.declared.Answer.{Answer}
 use Rattle.rtree.specs.Body.{fanoutOf, levelsOf, boxAt, shapeRefusal}
+use Rattle.rtree.specs.Opening.{Accepted}
 
 -- 1, 10, the query
 unfoldable pub askedRefusal : Description → ℕ → Window → Refusal
@@ -71,3 +72,11 @@ pub record Lists (d : Description) (n : ℕ) (body : List ℕ) (w : Window) (r :
 abbrev pub Bounded : ℕ → List ℕ → Answer → Type 0
 Bounded n body r =
     r .looked * (fanoutOf body - 1) ≤ levelsOf body * (fanoutOf body - 1) + (n - 1) * fanoutOf body
+
+-- All that is promised of a query's answer and of its buffer before and after it.
+pub record Promises (d : Description) (n : ℕ) (body : List ℕ) (w : Window) (r : Answer) (before after : List ℕ) : Type 0 where
+  pub answer : r ≡ queryAnswer d n body w
+  pub buffer : after ≡ queryBuffer d n body w before
+  pub listing : Accepted d n body → r .number ≡ 0 → Lists d n body w r before after
+  pub count : Accepted d n body → r .number ≡ 0 → r .looked ≡ flatCountOf d n body w
+  pub bound : r .number ≡ 0 → Bounded n body r

@@ -16,9 +16,9 @@ ghost use Rattle.tree.specs.Shape.{levels, bodyBytes};
 ghost use Rattle.tree.specs.AnyNumbers.{mostWidth, levelTable};
 ghost use Rattle.rtree.specs.Body.{fanoutOf, frontRefusal, countsRefusal, levelsRefusal, shapeRefusal};
 ghost use Rattle.rtree.specs.Opening.{Accepted, openAnswer};
-ghost use Rattle.rtree.specs.Held.{heldTiles, heldAnswer, heldBuffer, keptPart, Holds};
+ghost use Rattle.rtree.specs.Held.{heldTiles, heldTiles, heldBody, keptPart, Holds};
 ghost use Rattle.rtree.specs.Walking.{rootAt, refusedAnswer, state, visited, walked, Row};
-ghost use Rattle.rtree.specs.Query.{askedRefusal, queryAnswer, queryBuffer, flatCountOf, Lists, Bounded};
+ghost use Rattle.rtree.specs.Query.{askedRefusal, queryAnswer, queryBuffer, flatCountOf, Lists, Bounded, Promises};
 ghost use Rattle.rtree.specs.Stored.{refusedIn, runRefusal, childrenRefusal, treeRefusal, Run, Rows, Whole};
 
 // `which` of the two byte strings the place counts in: 0 the footer, 1 the body.
@@ -175,7 +175,7 @@ pub fn open_tree<'a>(
 
 // The query of an opened tree.
 pub fn ask<'a>(tree: OpenTree<'a>, window: Window, out: &mut [u32]) -> Answer
-    ensures { λ r. ⌜ (r ≡ queryAnswer (tree .entry .description) (tree .entry .tiles) (now (tree .entry .body)) window) × (now (out .exit) ≡ queryBuffer (tree .entry .description) (tree .entry .tiles) (now (tree .entry .body)) window (now (out .entry))) ⌝ }
+    ensures { λ r. ⌜ Promises (tree .entry .description) (tree .entry .tiles) (now (tree .entry .body)) window r (now (out .entry)) (now (out .exit)) ⌝ }
 {
     query(tree.description, tree.tiles, tree.body, window, out)
 }
@@ -189,7 +189,7 @@ pub fn open_and_ask(
     window: Window,
     out: &mut [u32],
 ) -> Answer
-    ensures { λ r. ⌜ (r ≡ heldAnswer description «file_size» (now (footer .entry)) (now (body .entry)) window) × (now (out .exit) ≡ heldBuffer description «file_size» (now (footer .entry)) (now (body .entry)) window (now (out .entry))) ⌝ }
+    ensures { λ r. ⌜ Promises description (heldTiles description «file_size» (now (footer .entry)) (now (body .entry))) (heldBody description «file_size» (now (footer .entry)) (now (body .entry))) window r (now (out .entry)) (now (out .exit)) ⌝ }
 {
     ask(open_tree(description, file_size, footer, body), window, out)
 }

@@ -42,7 +42,8 @@ use denote.Triple.Table.{entered, cited}
 use denote.Triple.Walked.{says, Stays, stay-none, gave-slice, walkOf, goes-none, goes-gave-slice, Walks, ends-at, walked, walk-meets}
 use denote.Exit.{yes}
 use denote.Triple.Clauses.{ensured, lasts}
-use Rattle.rtree.specs.Query.{queryAnswer, queryBuffer, flatCountOf, Lists, Bounded}
+use Rattle.rtree.specs.Query.{queryAnswer, queryBuffer, flatCountOf, Lists, Bounded, Promises}
+use Rattle.rtree.proofs.Asked.{keeps}
 use Rattle.rtree.specs.Opening.{Accepted}
 use Rattle.rtree.specs.declared.OpenTree.{OpenTree}
 use Rattle.boxes.specs.declared.Window.{Window}
@@ -135,7 +136,7 @@ module _ {M : Type 1} (𝓤 : URA M) (H : Heap 𝓤) (A : Atoms 𝓤) (W : Given
   Left zs = zs ≡ queryBuffer (d .description) (d .tiles) (now (d .body)) w (now x)
 
   abbrev Said : Answer → List ℕ → Type 0
-  Said r zs = Answered r × Left zs
+  Said r zs = Promises (d .description) (d .tiles) (now (d .body)) w r (now x) zs
 
   abbrev besides : Answer → List ℕ → SProp 𝓤
   besides r zs =
@@ -198,7 +199,7 @@ module _ {M : Type 1} (𝓤 : URA M) (H : Heap 𝓤) (A : Atoms 𝓤) (W : Given
           land ! (from ! (stop !)) (init ! 21 refl (LL.lawful S.the-type S′.the-laws 𝓤 H A W .typed r _ is .0)) $
           returns ! (look ! 21 refl) $ forget ! 5 refl $ forget ! 7 refl $ forget ! 9 refl $ forget ! 11 refl $ forget ! 13 refl $ forget ! 15 refl $ forget ! 17 refl $ forget ! 19 refl $ forget ! 21 refl $
           move ! (21 ∷ 22 ∷ []) $ free1 ! $ move ! (19 ∷ 20 ∷ []) $ free1 ! $ move ! (17 ∷ 18 ∷ []) $ free1 ! $ move ! (15 ∷ 16 ∷ []) $ free1 ! $ move ! (13 ∷ 14 ∷ []) $ free1 ! $ move ! (11 ∷ 12 ∷ []) $ free1 ! $ move ! (9 ∷ 10 ∷ []) $ free1 ! $ move ! (7 ∷ 8 ∷ []) $ free1 ! $ move ! (5 ∷ 6 ∷ []) $ free1 ! $ free0 ! $
-          keep ! (0 ∷ 1 ∷ 2 ∷ 4 ∷ []) $ by ! (exits r u (zs .1 .1 .1 .1 .0) (e, e′) l)))))))))))))))))
+          keep ! (0 ∷ 1 ∷ 2 ∷ 4 ∷ []) $ by ! (exits r u (zs .1 .1 .1 .1 .0) (keeps (d .description) (d .tiles) (now (d .body)) w e (now x) e′) l)))))))))))))))))
 
 module _ {M : Type 1} (𝓤 : URA M) (H : Heap 𝓤) (A : Atoms 𝓤) (W : Given 𝓤 H A) (mem : Memory → SProp 𝓤) (run : Routine → Fun 𝓤) where
   ask-walks : (C : Calls 𝓤 H) (Λ : Loops 𝓤 H) → FmC 𝓤 H (W .laws) C → Triple 𝓤 (C #rtree·query) (Callee 𝓤 H A mem run)

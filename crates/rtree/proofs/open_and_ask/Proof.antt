@@ -38,7 +38,7 @@ use denote.Triple.Table.{entered, cited}
 use denote.Triple.Walked.{says, Stays, stay-none, stay-none-slice, gave-slice, walkOf, goes-none, goes-none-slice, goes-gave-slice, Walks, ends-at, walked, walk-meets}
 use denote.Exit.{yes}
 use denote.Triple.Clauses.{ensured, lasts}
-use Rattle.rtree.specs.Query.{queryAnswer, queryBuffer}
+use Rattle.rtree.specs.Query.{Promises}
 use Rattle.rtree.specs.Held.{heldTiles, heldBody, Holds}
 use Rattle.boxes.specs.declared.Description.{Description}
 use Rattle.rtree.specs.declared.OpenTree.{OpenTree}
@@ -137,17 +137,16 @@ module _ {M : Type 1} (𝓤 : URA M) (H : Heap 𝓤) (A : Atoms 𝓤) (W : Given
 
   -- what is ensured of the result r and the last list zs, by `ask` at t, and by the function
   abbrev Asked : OpenTree → Answer → List ℕ → Type 0
-  Asked t r zs =
-      (r ≡ queryAnswer (t .description) (t .tiles) (now (t .body)) w) × (zs ≡ queryBuffer (t .description) (t .tiles) (now (t .body)) w (now x))
+  Asked t r zs = Promises (t .description) (t .tiles) (now (t .body)) w r (now x) zs
 
   abbrev Said : Answer → List ℕ → Type 0
-  Said r zs = (r ≡ queryAnswer d tiles kept w) × (zs ≡ queryBuffer d tiles kept w (now x))
+  Said r zs = Promises d tiles kept w r (now x) zs
 
   follows : (t : OpenTree) (r : Answer) (zs : List ℕ) → Opened t → Asked t r zs → Said r zs
   follows t r zs e s =
-      subst (λ (l : List ℕ). (r ≡ queryAnswer d tiles l w) × (zs ≡ queryBuffer d tiles l w (now x))) (e .0)
-      (subst (λ (n : ℕ). (r ≡ queryAnswer d n (now (t .body)) w) × (zs ≡ queryBuffer d n (now (t .body)) w (now x))) (e .1 .0)
-      (subst (λ (c : Description). (r ≡ queryAnswer c (t .tiles) (now (t .body)) w) × (zs ≡ queryBuffer c (t .tiles) (now (t .body)) w (now x))) (e .1 .1) s))
+      subst (λ (l : List ℕ). Promises d tiles l w r (now x) zs) (e .0)
+      (subst (λ (n : ℕ). Promises d n (now (t .body)) w r (now x) zs) (e .1 .0)
+      (subst (λ (c : Description). Promises c (t .tiles) (now (t .body)) w r (now x) zs) (e .1 .1) s))
 
   abbrev to-open : Open 𝓤 H A mem run .Ghost
   to-open = (((κ₀, (κ₁, tt)), (q₀, (q₁, tt)), tt, (d, (F, (f, (b, tt)))), (desc-v ∷ [], (F-v ∷ [], (f-v ∷ [], (b-v ∷ [], tt))))), tt)
