@@ -1,7 +1,28 @@
 # Tussockbell: what can be made here.
+#   make report  run the report on a sample fragment, or on the files DESCRIPTION=.. FOOTER=.. TREE=.. OFFSETS=..
+#   make lib     build/libtussockbell.a and build/libtussockbell.so, for include/tussockbell.h
 #   make test    prove every crate, try the must-fail edits, run the programs and the other tests
 SHELL := /bin/bash
 
-.PHONY: test
+SAMPLE := tests/fixtures/sample
+DESCRIPTION ?= $(SAMPLE)/description
+FOOTER ?= $(SAMPLE)/footer
+TREE ?= $(SAMPLE)/tree
+OFFSETS ?= $(SAMPLE)/offsets
+
+.PHONY: report lib test
+
+# The program is proved before it is linked; what the prover says goes to build/report.log.
+report:
+	@mkdir -p build
+	@rt check report > build/report.log 2>&1 || { cat build/report.log; exit 1; }
+	@target/bin/report '$(DESCRIPTION)' '$(FOOTER)' '$(TREE)' '$(OFFSETS)'
+
+lib:
+	@rt staticlib c_api
+	@mkdir -p build
+	@cp target/staticlib/libc_api.a build/libtussockbell.a
+	@gcc -shared -o build/libtussockbell.so -Wl,--whole-archive build/libtussockbell.a -Wl,--no-whole-archive
+
 test:
 	@tests/run

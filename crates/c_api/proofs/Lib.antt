@@ -1,0 +1,5 @@
+-- Laws that more than one proof of this crate cites, or that stand beside a long one.
+pub mod Storing
+pub mod Domain
+pub mod Placing
+pub mod Promised

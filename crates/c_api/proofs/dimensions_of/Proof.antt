@@ -1,0 +1,12 @@
+-- `c_api::dimensions_of` meets its contract: the four in turn. Assumes nothing.
+use borrow.Author.Needs.{needs}
+use Rattle.c_api.specs.Described.{dimensionsOf}
+use Rattle.c_api.proofs.dimensions_of.Statement.{statement}
+use Rattle.c_api.proofs.dimensions_of.Tie as tie
+
+returns : tie.Need-returns
+unfolding dimensionsOf
+returns c = cc
+
+pub dimensions-of-spec : {M : Type 1} → statement M
+dimensions-of-spec = tie.close (tie.spec (λ c κs. search needs) (λ c κs. search needs) (λ c κs. search needs) (λ c κs. search needs) returns)

@@ -1,0 +1,6 @@
+-- The definitions that the contracts of the exported functions cite.
+pub mod Described
+pub mod Windows
+pub mod Places
+pub mod Footers
+pub mod Promises

@@ -1,0 +1,5 @@
+-- The definitions that this crate's contracts cite.
+pub mod Lines
+pub mod Asked
+pub mod Text
+pub mod Wrote

@@ -1,0 +1,227 @@
+/* Tussockbell for C and C++: the footer and the R-tree of a TileDB fragment's metadata, tile offsets and tile sizes.
+ *
+ * Every function takes any input and writes every place of its answer array; none keeps a pointer. A byte string is a pointer and a
+ * length. With length 0 nothing is read or written through the pointer, which may then be null. A pointer to an answer array is never
+ * null. An answer array and a result buffer do not overlap each other or any byte string that is lent in the same call.
+ *
+ * A description is `kinds`, one kind number for each of 1 to 4 dimensions; `fields`, the entries of each per-field list, 1 to 64; and
+ * `capacity`, the cells of a full tile, 1 to 1000000000. A number that is no kind, and a number of kinds that is not 1 to 4, is refused
+ * like any other number outside the limits, with TUSSOCKBELL_REFUSED_DESCRIPTION at place 0.
+ *
+ * An answer's first two places are the refusal's number, 0 for none, and its place in the bytes that were lent. After a refusal every
+ * other number is 0 unless a comment says otherwise. */
+#ifndef TUSSOCKBELL_H
+#define TUSSOCKBELL_H
+
+#include <stddef.h>
+#include <stdint.h>
+
+#ifdef __cplusplus
+extern "C" {
+#endif
+
+/* Kinds: TileDB's own Datatype numbers. */
+#define TUSSOCKBELL_INT32 0
+#define TUSSOCKBELL_INT64 1
+#define TUSSOCKBELL_FLOAT32 2
+#define TUSSOCKBELL_FLOAT64 3
+
+/* Refusal numbers. */
+#define TUSSOCKBELL_NOT_REFUSED 0
+#define TUSSOCKBELL_REFUSED_DESCRIPTION 1
+#define TUSSOCKBELL_REFUSED_BYTES 2
+#define TUSSOCKBELL_REFUSED_VERSION 3
+#define TUSSOCKBELL_REFUSED_NAME_SIZE 4
+#define TUSSOCKBELL_REFUSED_FLAG 5
+#define TUSSOCKBELL_REFUSED_DENSE 6
+#define TUSSOCKBELL_REFUSED_NULL_DOMAIN 7
+#define TUSSOCKBELL_REFUSED_NOT_A_NUMBER 8
+#define TUSSOCKBELL_REFUSED_REVERSED 9
+#define TUSSOCKBELL_REFUSED_TILES 10
+#define TUSSOCKBELL_REFUSED_LAST_CELLS 11
+#define TUSSOCKBELL_REFUSED_OFFSET 12
+#define TUSSOCKBELL_REFUSED_FANOUT 13
+#define TUSSOCKBELL_REFUSED_LEVELS 14
+#define TUSSOCKBELL_REFUSED_OUTSIDE_PARENT 15
+#define TUSSOCKBELL_REFUSED_OUTSIDE_DOMAIN 16
+#define TUSSOCKBELL_REFUSED_COUNT 17
+#define TUSSOCKBELL_REFUSED_TILE_OFFSETS 18
+#define TUSSOCKBELL_REFUSED_WINDOW 19
+#define TUSSOCKBELL_REFUSED_SUM 20
+
+/* The text of a refusal number. */
+static inline const char *tussockbell_refusal_text(uint64_t number)
+{
+    switch (number) {
+    case TUSSOCKBELL_NOT_REFUSED:
+        return "not refused";
+    case TUSSOCKBELL_REFUSED_DESCRIPTION:
+        return "description outside the limits";
+    case TUSSOCKBELL_REFUSED_BYTES:
+        return "byte count or length field wrong";
+    case TUSSOCKBELL_REFUSED_VERSION:
+        return "version outside the limits";
+    case TUSSOCKBELL_REFUSED_NAME_SIZE:
+        return "name size outside the limits";
+    case TUSSOCKBELL_REFUSED_FLAG:
+        return "a flag byte is neither 0 nor 1";
+    case TUSSOCKBELL_REFUSED_DENSE:
+        return "dense flag is 1";
+    case TUSSOCKBELL_REFUSED_NULL_DOMAIN:
+        return "null-domain flag is 1";
+    case TUSSOCKBELL_REFUSED_NOT_A_NUMBER:
+        return "a range end is NaN";
+    case TUSSOCKBELL_REFUSED_REVERSED:
+        return "minimum above maximum";
+    case TUSSOCKBELL_REFUSED_TILES:
+        return "tile number outside the limits";
+    case TUSSOCKBELL_REFUSED_LAST_CELLS:
+        return "last tile's cells not 1 to the capacity";
+    case TUSSOCKBELL_REFUSED_OFFSET:
+        return "an offset not below the footer's place in the file";
+    case TUSSOCKBELL_REFUSED_FANOUT:
+        return "fanout outside the limits";
+    case TUSSOCKBELL_REFUSED_LEVELS:
+        return "level number or a level's box count wrong";
+    case TUSSOCKBELL_REFUSED_OUTSIDE_PARENT:
+        return "a box not inside its parent";
+    case TUSSOCKBELL_REFUSED_OUTSIDE_DOMAIN:
+        return "the first box not inside the domain";
+    case TUSSOCKBELL_REFUSED_COUNT:
+        return "a list's count is not the number of tiles";
+    case TUSSOCKBELL_REFUSED_TILE_OFFSETS:
+        return "tile offsets break their rule";
+    case TUSSOCKBELL_REFUSED_WINDOW:
+        return "the window's dimension number or a kind differs";
+    case TUSSOCKBELL_REFUSED_SUM:
+        return "tile sizes add up past 2^64 - 1";
+    default:
+        return "no refusal number";
+    }
+}
+
+/* The first two places of every answer that can be a refusal. */
+#define TUSSOCKBELL_NUMBER 0
+#define TUSSOCKBELL_PLACE 1
+
+/* tussockbell_footer. The domain has three places for each of four dimensions, and each list 64. */
+#define TUSSOCKBELL_FOOTER_VERSION 2
+#define TUSSOCKBELL_FOOTER_NAME_SIZE 3
+#define TUSSOCKBELL_FOOTER_DENSE 4
+#define TUSSOCKBELL_FOOTER_NULL_DOMAIN 5
+#define TUSSOCKBELL_FOOTER_TILES 6
+#define TUSSOCKBELL_FOOTER_LAST_CELLS 7
+#define TUSSOCKBELL_FOOTER_TIMESTAMPS 8
+#define TUSSOCKBELL_FOOTER_DELETES 9
+#define TUSSOCKBELL_FOOTER_RTREE 10
+#define TUSSOCKBELL_FOOTER_FRAGMENT 11
+#define TUSSOCKBELL_FOOTER_CONDITIONS 12
+#define TUSSOCKBELL_FOOTER_LENGTH 13
+#define TUSSOCKBELL_FOOTER_DOMAIN 14
+#define TUSSOCKBELL_DOMAIN_KIND 0
+#define TUSSOCKBELL_DOMAIN_LOW 1
+#define TUSSOCKBELL_DOMAIN_HIGH 2
+#define TUSSOCKBELL_DOMAIN_PLACES 3
+#define TUSSOCKBELL_FOOTER_FILE_SIZES 26
+#define TUSSOCKBELL_FOOTER_FILE_VAR_SIZES 90
+#define TUSSOCKBELL_FOOTER_FILE_VALIDITY_SIZES 154
+#define TUSSOCKBELL_FOOTER_TILE_OFFSETS 218
+#define TUSSOCKBELL_FOOTER_VAR_OFFSETS 282
+#define TUSSOCKBELL_FOOTER_VAR_SIZES 346
+#define TUSSOCKBELL_FOOTER_VALIDITY 410
+#define TUSSOCKBELL_FOOTER_MINS 474
+#define TUSSOCKBELL_FOOTER_MAXES 538
+#define TUSSOCKBELL_FOOTER_SUMS 602
+#define TUSSOCKBELL_FOOTER_NULL_COUNTS 666
+#define TUSSOCKBELL_FOOTER_LIST_PLACES 64
+#define TUSSOCKBELL_FOOTER_PLACES 730
+
+/* tussockbell_schema_name */
+#define TUSSOCKBELL_NAME_START 0
+#define TUSSOCKBELL_NAME_LENGTH 1
+#define TUSSOCKBELL_NAME_PLACES 2
+
+/* tussockbell_open. WHICH: 0 where the place counts in the footer, 1 where it counts in the tree. */
+#define TUSSOCKBELL_OPEN_WHICH 2
+#define TUSSOCKBELL_OPEN_TILES 3
+#define TUSSOCKBELL_OPEN_FANOUT 4
+#define TUSSOCKBELL_OPEN_LEVELS 5
+#define TUSSOCKBELL_OPEN_PLACES 6
+
+/* tussockbell_query */
+#define TUSSOCKBELL_QUERY_FOUND 2
+#define TUSSOCKBELL_QUERY_LOOKED 3
+#define TUSSOCKBELL_QUERY_PLACES 4
+
+/* tussockbell_offsets */
+#define TUSSOCKBELL_OFFSETS_TILES 2
+#define TUSSOCKBELL_OFFSETS_PLACES 3
+
+/* tussockbell_extent and tussockbell_extent_at */
+#define TUSSOCKBELL_EXTENT_OFFSET 0
+#define TUSSOCKBELL_EXTENT_LENGTH 1
+#define TUSSOCKBELL_EXTENT_PLACES 2
+
+/* tussockbell_sizes */
+#define TUSSOCKBELL_SIZES_SUM 2
+#define TUSSOCKBELL_SIZES_PLACES 3
+
+/* Opens a footer of a metadata file of `file_size` bytes: every number of it. A dimension of the domain is its kind number and the bit
+ * patterns of its ends, an end of 4 bytes in the low half. Dimensions past those that there are, and all four after a refusal, are an
+ * int64 range 0 to 0, so that their kind place is 1. List places past `fields` are 0. */
+void tussockbell_footer(const uint8_t *kinds, size_t kinds_length, uint64_t fields, uint64_t capacity, uint64_t file_size,
+                        const uint8_t *footer, size_t footer_length, uint64_t *answer /* [TUSSOCKBELL_FOOTER_PLACES] */);
+
+/* Where the schema name starts in the lent footer, and its bytes; 0 and 0 where the footer is refused. */
+void tussockbell_schema_name(const uint8_t *kinds, size_t kinds_length, uint64_t fields, uint64_t capacity, uint64_t file_size,
+                             const uint8_t *footer, size_t footer_length, uint64_t *answer /* [TUSSOCKBELL_NAME_PLACES] */);
+
+/* The cells of a tile, counted from 0; 0 past the last tile and where the footer is refused. */
+uint64_t tussockbell_cells(const uint8_t *kinds, size_t kinds_length, uint64_t fields, uint64_t capacity, uint64_t file_size,
+                           const uint8_t *footer, size_t footer_length, uint64_t tile);
+
+/* The cells of all tiles; 0 where the footer is refused. */
+uint64_t tussockbell_total_cells(const uint8_t *kinds, size_t kinds_length, uint64_t fields, uint64_t capacity, uint64_t file_size,
+                                 const uint8_t *footer, size_t footer_length);
+
+/* Opens a footer and a tree together, and checks every box. */
+void tussockbell_open(const uint8_t *kinds, size_t kinds_length, uint64_t fields, uint64_t capacity, uint64_t file_size,
+                      const uint8_t *footer, size_t footer_length, const uint8_t *tree, size_t tree_length,
+                      uint64_t *answer /* [TUSSOCKBELL_OPEN_PLACES] */);
+
+/* Which tiles does a window touch, in a tree of `tiles` tiles? The answer has how many were found and how many boxes were looked at. The
+ * first places of `out` hold the first tiles found, as many as fit, and the others are untouched, all of them where the query is refused.
+ * The window is its own kind numbers and then, for each of them, its minimum and its maximum, little-endian, of that kind. Ranges whose
+ * bytes are not all there count as 0 to 0, and bytes past the last are ignored. A number of window kinds unlike the description's is
+ * TUSSOCKBELL_REFUSED_WINDOW at 0; a kind unlike the description's, or a number that is no kind, is that at its dimension, in its turn.
+ * Boxes are not checked again. Over a tree that tussockbell_open accepts with this description and this number of tiles, the tiles found
+ * are exactly those whose box meets the window, in rising order, and the number looked at is the rules' flat count. For every query that
+ * is not refused, with f the fanout and L the levels, looked * (f - 1) <= L * (f - 1) + (tiles - 1) * f. */
+void tussockbell_query(const uint8_t *kinds, size_t kinds_length, uint64_t fields, uint64_t capacity, uint64_t tiles,
+                       const uint8_t *tree, size_t tree_length, const uint8_t *window_kinds, size_t window_kinds_length,
+                       const uint8_t *window_ends, size_t window_ends_length, uint32_t *out, size_t out_length,
+                       uint64_t *answer /* [TUSSOCKBELL_QUERY_PLACES] */);
+
+/* Checks the tile offsets of a data file of `size` bytes. */
+void tussockbell_offsets(uint64_t tiles, uint64_t size, const uint8_t *list, size_t list_length,
+                         uint64_t *answer /* [TUSSOCKBELL_OFFSETS_PLACES] */);
+
+/* Where a tile's bytes start in the data file, and how many they are, after the whole list is checked; 0 and 0 where the list is refused,
+ * and past the last tile. */
+void tussockbell_extent(uint64_t tiles, uint64_t size, const uint8_t *list, size_t list_length, uint64_t tile,
+                        uint64_t *answer /* [TUSSOCKBELL_EXTENT_PLACES] */);
+
+/* The same with no check of the list, for one that tussockbell_offsets accepts with these numbers: then the answer is
+ * tussockbell_extent's. Over other bytes an entry that is not there counts as 0, and an extent below 0 as 0. */
+void tussockbell_extent_at(uint64_t tiles, uint64_t size, const uint8_t *list, size_t list_length, uint64_t tile,
+                           uint64_t *answer /* [TUSSOCKBELL_EXTENT_PLACES] */);
+
+/* Checks tile sizes, and adds them up. */
+void tussockbell_sizes(uint64_t tiles, const uint8_t *list, size_t list_length,
+                       uint64_t *answer /* [TUSSOCKBELL_SIZES_PLACES] */);
+
+#ifdef __cplusplus
+}
+#endif
+
+#endif

@@ -1,0 +1,133 @@
+/* Asks tree A of the rules for some windows, and prints what each call answers. */
+#include "tussockbell.h"
+
+#include <inttypes.h>
+#include <stdio.h>
+#include <string.h>
+
+static size_t put(uint8_t *bytes, size_t at, uint64_t number, size_t width)
+{
+    for (size_t i = 0; i < width; i++) {
+        bytes[at + i] = (uint8_t)(number >> (8 * i));
+    }
+    return at + width;
+}
+
+static size_t range(uint8_t *bytes, size_t at, int32_t low, int32_t high)
+{
+    at = put(bytes, at, (uint32_t)low, 4);
+    return put(bytes, at, (uint32_t)high, 4);
+}
+
+static void show(const char *what, const uint64_t *answer, size_t places)
+{
+    printf("%s:", what);
+    for (size_t i = 0; i < places; i++) {
+        printf(" %" PRIu64, answer[i]);
+    }
+    printf("\n");
+}
+
+static const uint8_t kinds[1] = {TUSSOCKBELL_INT32};
+
+/* A footer of one field over three tiles, the last of 5 cells. */
+static size_t footer_bytes(uint8_t *footer)
+{
+    size_t at = put(footer, 0, 21, 4);
+    at = put(footer, at, 6, 8);
+    memcpy(footer + at, "schema", 6);
+    at += 6;
+    at = put(footer, at, 0, 2);
+    at = range(footer, at, -1, 24);
+    at = put(footer, at, 3, 8);
+    at = put(footer, at, 5, 8);
+    at = put(footer, at, 0, 1);
+    at = put(footer, at, 1, 1);
+    for (uint64_t i = 0; i < 14; i++) {
+        at = put(footer, at, 10 + i, 8);
+    }
+    return put(footer, at, at, 8);
+}
+
+static void query(const uint8_t *tree, size_t length, const uint8_t *window_kinds, size_t count, int32_t low, int32_t high)
+{
+    uint8_t ends[8];
+    uint32_t out[3] = {9, 9, 9};
+    uint64_t answer[TUSSOCKBELL_QUERY_PLACES];
+    range(ends, 0, low, high);
+    tussockbell_query(kinds, 1, 1, 32, 3, tree, length, window_kinds, count, ends, sizeof ends, out, 3, answer);
+    printf("[%" PRId32 ", %" PRId32 "] ", low, high);
+    show("query", answer, TUSSOCKBELL_QUERY_PLACES);
+    printf("  %s; buffer %" PRIu32 " %" PRIu32 " %" PRIu32 "\n", tussockbell_refusal_text(answer[TUSSOCKBELL_NUMBER]), out[0],
+           out[1], out[2]);
+}
+
+int main(void)
+{
+    uint8_t tree[80];
+    size_t length = put(tree, put(tree, 0, 2, 4), 3, 4);
+    length = range(tree, put(tree, length, 1, 8), 0, 24);
+    length = range(tree, put(tree, length, 2, 8), 0, 14);
+    length = range(tree, length, 20, 24);
+    length = range(tree, put(tree, length, 3, 8), 0, 4);
+    length = range(tree, length, 10, 14);
+    length = range(tree, length, 20, 24);
+
+    const uint8_t no_kind[1] = {4};
+    const uint8_t other_kind[1] = {TUSSOCKBELL_FLOAT32};
+    query(tree, length, kinds, 1, 12, 21);
+    query(tree, length, kinds, 1, 5, 9);
+    query(tree, length, kinds, 1, 30, 40);
+    query(tree, length, kinds, 1, 4, 4);
+    query(tree, length, kinds, 1, 4, 3);
+    query(tree, length, no_kind, 1, 4, 4);
+    query(tree, length, other_kind, 1, 4, 4);
+    query(tree, length, NULL, 0, 4, 4);
+
+    uint8_t footer[256];
+    size_t footer_length = footer_bytes(footer);
+    uint64_t size = footer_length + 1000;
+    uint64_t opened[TUSSOCKBELL_OPEN_PLACES];
+    tussockbell_open(kinds, 1, 1, 32, size, footer, footer_length, tree, length, opened);
+    show("open", opened, TUSSOCKBELL_OPEN_PLACES);
+    tussockbell_open(no_kind, 1, 1, 32, size, footer, footer_length, tree, length, opened);
+    show("open with no kind", opened, TUSSOCKBELL_OPEN_PLACES);
+    tussockbell_open(kinds, 1, 1, 32, size, NULL, 0, NULL, 0, opened);
+    show("open nothing", opened, TUSSOCKBELL_OPEN_PLACES);
+
+    uint64_t all[TUSSOCKBELL_FOOTER_PLACES];
+    tussockbell_footer(kinds, 1, 1, 32, size, footer, footer_length, all);
+    show("footer", all, TUSSOCKBELL_FOOTER_FILE_SIZES);
+    for (size_t at = TUSSOCKBELL_FOOTER_FILE_SIZES; at < TUSSOCKBELL_FOOTER_PLACES; at += TUSSOCKBELL_FOOTER_LIST_PLACES) {
+        show("list", all + at, 2);
+    }
+    tussockbell_footer(kinds, 1, 1, 32, 0, footer, footer_length, all);
+    show("footer of no file", all, TUSSOCKBELL_FOOTER_FILE_SIZES);
+
+    uint64_t name[TUSSOCKBELL_NAME_PLACES];
+    tussockbell_schema_name(kinds, 1, 1, 32, size, footer, footer_length, name);
+    show("name", name, TUSSOCKBELL_NAME_PLACES);
+    printf("  %.*s\n", (int)name[TUSSOCKBELL_NAME_LENGTH], (const char *)footer + name[TUSSOCKBELL_NAME_START]);
+    printf("cells: %" PRIu64 " %" PRIu64 " %" PRIu64 ", all %" PRIu64 "\n",
+           tussockbell_cells(kinds, 1, 1, 32, size, footer, footer_length, 0),
+           tussockbell_cells(kinds, 1, 1, 32, size, footer, footer_length, 2),
+           tussockbell_cells(kinds, 1, 1, 32, size, footer, footer_length, 3),
+           tussockbell_total_cells(kinds, 1, 1, 32, size, footer, footer_length));
+
+    uint8_t list[32];
+    size_t list_length = put(list, put(list, put(list, put(list, 0, 3, 8), 0, 8), 100, 8), 250, 8);
+    uint64_t offsets[TUSSOCKBELL_OFFSETS_PLACES];
+    uint64_t extent[TUSSOCKBELL_EXTENT_PLACES];
+    uint64_t sizes[TUSSOCKBELL_SIZES_PLACES];
+    tussockbell_offsets(3, 300, list, list_length, offsets);
+    show("offsets", offsets, TUSSOCKBELL_OFFSETS_PLACES);
+    tussockbell_offsets(3, 250, list, list_length, offsets);
+    show("offsets past the end", offsets, TUSSOCKBELL_OFFSETS_PLACES);
+    tussockbell_extent(3, 300, list, list_length, 1, extent);
+    show("extent", extent, TUSSOCKBELL_EXTENT_PLACES);
+    tussockbell_extent_at(3, 300, list, list_length, 2, extent);
+    show("extent of the last", extent, TUSSOCKBELL_EXTENT_PLACES);
+    tussockbell_sizes(3, list, list_length, sizes);
+    show("sizes", sizes, TUSSOCKBELL_SIZES_PLACES);
+    return 0;
+}
