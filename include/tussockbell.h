@@ -220,6 +220,12 @@ void tussockbell_extent_at(uint64_t tiles, uint64_t size, const uint8_t *list, s
 void tussockbell_sizes(uint64_t tiles, const uint8_t *list, size_t list_length,
                        uint64_t *answer /* [TUSSOCKBELL_SIZES_PLACES] */);
 
+/* The report of the contents of four files: description, footer, tree and offsets. Returns the length of its text, and writes the text at the
+ * start of `out` if all of it fits; otherwise `out` stays as it was. */
+size_t tussockbell_report(const uint8_t *description, size_t description_length, const uint8_t *footer, size_t footer_length,
+                          const uint8_t *tree, size_t tree_length, const uint8_t *offsets, size_t offsets_length, uint8_t *out,
+                          size_t out_length);
+
 #ifdef __cplusplus
 }
 #endif

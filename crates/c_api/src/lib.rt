@@ -7,7 +7,7 @@ use boxes::Side;
 use boxes::Window;
 ghost use mathlib.Core.Path.{_≡_};
 ghost use mathlib.Core.Bool.{_&&_};
-ghost use lib.ListN.{getD, take, drop};
+ghost use lib.ListN.{length, getD, take, drop};
 ghost use Rattle.answers.specs.Runs.{pick};
 ghost use Rattle.lists.specs.Offsets.{offsetsAnswer, extentAt, extentAnswer};
 ghost use Rattle.lists.specs.Sizes.{sizesAnswer};
@@ -16,6 +16,8 @@ ghost use Rattle.boxes.specs.Kinds.{rangeBytes};
 ghost use Rattle.footer.specs.Answer.{checkedAnswer, footerAnswer, schemaName, tileCells, allCells};
 ghost use Rattle.rtree.specs.Opening.{openAnswer};
 ghost use Rattle.rtree.specs.Query.{queryAnswer, queryBuffer};
+ghost use Rattle.decimal.specs.Write.{put};
+ghost use Rattle.report_text.specs.Text.{reportText};
 ghost use Rattle.c_api.specs.Described.{isKind, kindOfNumber, dimensionAt, dimensionsOf, allKinds, describe};
 ghost use Rattle.c_api.specs.Footers.{patternsAt, noEnds, sideEnds, domainEnds, stored, footerPlaces};
 ghost use Rattle.c_api.specs.Windows.{otherSide, windowOf};
@@ -492,4 +494,18 @@ fn window_of(kinds: &[u8], window_kinds: &[u8], window_ends: &[u8]) -> Window
         dimensions: count,
         sides: [a, b, c, d],
     }
+}
+
+// The report of the four files' contents: its length, and its bytes at the start of the buffer if they all fit.
+#[no_mangle]
+pub extern "C" fn tussockbell_report(
+    description: &[u8],
+    footer: &[u8],
+    tree: &[u8],
+    offsets: &[u8],
+    out: &mut [u8],
+) -> usize
+    ensures { λ r. ⌜ (r ≡ length (reportText (now (description .entry)) (now (footer .entry)) (now (tree .entry)) (now (offsets .entry)))) × (now (out .exit) ≡ put (now (out .entry)) 0 (reportText (now (description .entry)) (now (footer .entry)) (now (tree .entry)) (now (offsets .entry)))) ⌝ }
+{
+    report_text::report(description, footer, tree, offsets, out)
 }

@@ -1,0 +1,451 @@
+//! Inputs, made from a seed and a number.
+
+use crate::rules::{self, Description};
+
+#[derive(Clone, Debug)]
+pub enum Case {
+    Footer { d: Description, file_size: u64, footer: Vec<u8>, tile: u64 },
+    Open { d: Description, file_size: u64, footer: Vec<u8>, tree: Vec<u8> },
+    Query { d: Description, tiles: u64, tree: Vec<u8>, kinds: Vec<u8>, ends: Vec<u8>, room: usize },
+    Offsets { tiles: u64, size: u64, list: Vec<u8>, tile: u64 },
+    Sizes { tiles: u64, list: Vec<u8> },
+    Report { description: Vec<u8>, footer: Vec<u8>, tree: Vec<u8>, offsets: Vec<u8>, room: usize },
+}
+
+/// Numbers from a seed (SplitMix64).
+pub struct Chance(u64);
+
+impl Chance {
+    pub fn new(seed: u64, input: u64) -> Chance {
+        let mut c = Chance(seed ^ input.wrapping_mul(0x9e37_79b9_7f4a_7c15));
+        c.next();
+        c
+    }
+
+    pub fn next(&mut self) -> u64 {
+        self.0 = self.0.wrapping_add(0x9e37_79b9_7f4a_7c15);
+        let mut z = self.0;
+        z = (z ^ (z >> 30)).wrapping_mul(0xbf58_476d_1ce4_e5b9);
+        z = (z ^ (z >> 27)).wrapping_mul(0x94d0_49bb_1331_11eb);
+        z ^ (z >> 31)
+    }
+
+    pub fn below(&mut self, n: u64) -> u64 {
+        self.next() % n
+    }
+
+    pub fn one_in(&mut self, n: u64) -> bool {
+        self.below(n) == 0
+    }
+
+    pub fn of<T: Copy>(&mut self, all: &[T]) -> T {
+        all[self.below(all.len() as u64) as usize]
+    }
+}
+
+/// One end of a range as its bytes: small whole numbers mostly, the kind's own edges now and then.
+fn end(c: &mut Chance, kind: u8, x: i64) -> Vec<u8> {
+    let edge = c.one_in(60);
+    match kind {
+        0 if edge => c.of(&[i32::MIN, i32::MAX, -1, 0]).to_le_bytes().to_vec(),
+        0 => (x as i32).to_le_bytes().to_vec(),
+        1 if edge => c.of(&[i64::MIN, i64::MAX, -1, 0]).to_le_bytes().to_vec(),
+        1 => x.to_le_bytes().to_vec(),
+        2 if edge => c.of(&[0.0f32, -0.0, f32::INFINITY, f32::NEG_INFINITY, 1e-45, -1e-45]).to_le_bytes().to_vec(),
+        2 => (x as f32 / 2.0).to_le_bytes().to_vec(),
+        _ if edge => c.of(&[0.0f64, -0.0, f64::INFINITY, f64::NEG_INFINITY, 5e-324, -5e-324]).to_le_bytes().to_vec(),
+        _ => (x as f64 / 2.0).to_le_bytes().to_vec(),
+    }
+}
+
+fn nan(c: &mut Chance, kind: u8) -> Vec<u8> {
+    match kind {
+        2 => c.of(&[0x7fc0_0000u32, 0x7f80_0001, 0xffff_ffff]).to_le_bytes().to_vec(),
+        _ => c.of(&[0x7ff8_0000_0000_0000u64, 0x7ff0_0000_0000_0001, u64::MAX]).to_le_bytes().to_vec(),
+    }
+}
+
+fn description(c: &mut Chance) -> Description {
+    let number = if c.one_in(200) { c.of(&[0usize, 5, 9]) } else { 1 + c.below(4) as usize };
+    let mut kinds: Vec<u8> = (0..number).map(|_| c.below(4) as u8).collect();
+    if c.one_in(200) && number > 0 {
+        kinds[c.below(number as u64) as usize] = c.of(&[4, 5, 255]);
+    }
+    let fields = if c.one_in(200) { c.of(&[0, 65, u64::MAX]) } else { 1 + c.below(3) };
+    let capacity = if c.one_in(200) { c.of(&[0, 1_000_000_001, u64::MAX]) } else { c.of(&[1, 10, 1_000_000_000]) };
+    Description { kinds, fields, capacity }
+}
+
+/// The description with every kind in its place, to make pieces that would fit it.
+fn plain(d: &Description) -> Description {
+    let kinds = d.kinds.iter().take(4).map(|k| k % 4).collect::<Vec<_>>();
+    let kinds = if kinds.is_empty() { vec![0] } else { kinds };
+    Description { kinds, fields: d.fields.clamp(1, 3), capacity: d.capacity.clamp(1, 1_000_000_000) }
+}
+
+type Box_ = Vec<(i64, i64)>;
+
+fn bytes(c: &mut Chance, kinds: &[u8], sides: &Box_) -> Vec<u8> {
+    let mut data = vec![];
+    for (kind, (low, high)) in kinds.iter().zip(sides) {
+        data.extend(end(c, *kind, *low));
+        data.extend(end(c, *kind, *high));
+    }
+    data
+}
+
+fn around(boxes: &[Box_]) -> Box_ {
+    (0..boxes[0].len()).map(|i| (boxes.iter().map(|b| b[i].0).min().unwrap(), boxes.iter().map(|b| b[i].1).max().unwrap())).collect()
+}
+
+struct Tree {
+    body: Vec<u8>,
+    tiles: u64,
+    root: Box_,
+}
+
+fn tree(c: &mut Chance, d: &Description) -> Tree {
+    let f = c.of(&[2u64, 2, 3, 4, 10, 1024]);
+    let n = match c.below(12) {
+        0 => 1,
+        1 => f.min(40),
+        2 => (f + 1).min(41),
+        3 => (f * f).min(60),
+        4 => (f * f + 1).min(61),
+        _ => 1 + c.below(24),
+    };
+    let spread = c.of(&[4u64, 20, 100]);
+    let leaves: Vec<Box_> = (0..n)
+        .map(|i| {
+            (0..d.kinds.len())
+                .map(|p| {
+                    let low = if p == 0 { 4 * i as i64 - 20 } else { c.below(spread) as i64 - 10 };
+                    (low, low + c.below(8) as i64)
+                })
+                .collect()
+        })
+        .collect();
+    let mut levels = vec![leaves];
+    while levels[0].len() > 1 {
+        let mut above: Vec<Box_> = levels[0].chunks(f as usize).map(around).collect();
+        if c.one_in(4) {
+            for side in above.iter_mut().flatten() {
+                side.0 -= c.below(3) as i64;
+                side.1 += c.below(3) as i64;
+            }
+            // a parent may be wider than its children need, but not than its own parent, which is worked out from it
+        }
+        levels.insert(0, above);
+    }
+    let root = levels[0][0].clone();
+    let mut body = (f as u32).to_le_bytes().to_vec();
+    body.extend((levels.len() as u32).to_le_bytes());
+    for level in &levels {
+        body.extend((level.len() as u64).to_le_bytes());
+        for b in level {
+            body.extend(bytes(c, &d.kinds, b));
+        }
+    }
+    Tree { body, tiles: n, root }
+}
+
+/// Flips, cuts, overlong bytes, numbers at their edges, NaN: none, one or several.
+fn damage(c: &mut Chance, data: &mut Vec<u8>) {
+    let faults = c.of(&[0u64, 0, 0, 1, 1, 2, 4]);
+    for _ in 0..faults {
+        if data.is_empty() {
+            return;
+        }
+        let at = c.below(data.len() as u64) as usize;
+        match c.below(8) {
+            0 => data.truncate(at),
+            1 => data.push(c.next() as u8),
+            2 => data[at] = c.next() as u8,
+            3 | 4 => data[at] ^= 1 << c.below(8),
+            5 => {
+                let patterns: [&[u8]; 4] = [&[0, 0, 192, 127], &[0, 0, 0, 0, 0, 0, 248, 127], &[255; 8], &[0; 8]];
+                let pattern = c.of(&patterns);
+                let length = pattern.len().min(data.len() - at);
+                data[at..at + length].copy_from_slice(&pattern[..length]);
+            }
+            6 => data[at] = data[at].wrapping_add(1),
+            _ => data[at] = data[at].wrapping_sub(1),
+        }
+    }
+}
+
+struct Foot {
+    data: Vec<u8>,
+    file_size: u64,
+}
+
+fn footer(c: &mut Chance, d: &Description, tiles: u64, domain: &Box_) -> Foot {
+    let size = c.of(&[1usize, 4, 40, 255]);
+    let n = d.fields as usize;
+    let total = 64 + size + d.box_bytes() + 88 * n;
+    let slack = c.of(&[0u64, 1, 1000, 1000, 1000, u64::MAX - 100_000]);
+    let bad = |c: &mut Chance| c.one_in(60);
+    let mut data = if bad(c) { c.of(&[15u32, 22, u32::MAX]) } else { 16 + c.below(6) as u32 }.to_le_bytes().to_vec();
+    data.extend(if bad(c) { c.of(&[0u64, 256, u64::MAX]) } else { size as u64 }.to_le_bytes());
+    data.extend((0..size).map(|_| c.next() as u8));
+    for _ in 0..2 {
+        data.push(if bad(c) { c.of(&[1, 2, 255]) } else { 0 });
+    }
+    data.extend(bytes(c, &d.kinds, domain));
+    data.extend(if bad(c) { c.of(&[0u64, 65_537, u64::MAX]) } else { tiles }.to_le_bytes());
+    data.extend(if bad(c) { c.of(&[0u64, d.capacity + 1, u64::MAX]) } else { 1 + c.below(d.capacity) }.to_le_bytes());
+    for _ in 0..2 {
+        data.push(if bad(c) { 2 } else { c.below(2) as u8 });
+    }
+    data.extend((0..3 * n).flat_map(|_| c.next().to_le_bytes()));
+    for _ in 0..8 * n + 3 {
+        let value = if c.one_in(150) { c.of(&[slack, u64::MAX]) } else { c.below(slack.max(1)) };
+        data.extend(value.to_le_bytes());
+    }
+    data.extend(if bad(c) { c.next() } else { total as u64 - 8 }.to_le_bytes());
+    let file_size = if c.one_in(80) { c.of(&[0, total as u64 - 1]) } else { (total as u64).saturating_add(slack) };
+    Foot { data, file_size }
+}
+
+fn window(c: &mut Chance, d: &Description) -> (Vec<u8>, Vec<u8>) {
+    let mut kinds: Vec<u8> = d.kinds.clone();
+    match c.below(60) {
+        0 => kinds.push(c.below(4) as u8),
+        1 => {
+            kinds.pop();
+        }
+        2 if !kinds.is_empty() => kinds[0] = c.of(&[0, 1, 2, 3, 4, 255]),
+        3 if !kinds.is_empty() => *kinds.last_mut().unwrap() = c.of(&[0, 1, 2, 3, 4, 255]),
+        _ => (),
+    }
+    let mut ends = vec![];
+    for kind in &kinds {
+        let low = c.below(120) as i64 - 40;
+        let high = low + c.of(&[0i64, 0, 3, 20, 100, -1]);
+        let k = kind % 4;
+        for x in [low, high] {
+            let bytes = if k >= 2 && c.one_in(60) { nan(c, k) } else { end(c, k, x) };
+            ends.extend(bytes);
+        }
+    }
+    if c.one_in(60) {
+        ends.truncate(c.below(ends.len() as u64 + 1) as usize);
+    }
+    if c.one_in(60) {
+        ends.push(1);
+    }
+    (kinds, ends)
+}
+
+fn list(c: &mut Chance, sum: bool) -> (u64, u64, Vec<u8>) {
+    let n = if c.one_in(50) { c.of(&[0, 65_537, u64::MAX]) } else { 1 + c.below(20) };
+    let count = n.min(30);
+    let mut entries = vec![];
+    let mut next = 0u64;
+    for i in 0..count {
+        let step = if c.one_in(40) { c.of(&[0, u64::MAX, 1 << 63]) } else { 1 + c.below(100) };
+        entries.push(if sum { step } else { next });
+        if c.one_in(100) && !sum {
+            entries[i as usize] = entries[i as usize].wrapping_sub(c.of(&[1, 2]));
+        }
+        next = next.wrapping_add(step);
+    }
+    let size = if c.one_in(30) { c.of(&[0, next.wrapping_sub(1), u64::MAX]) } else { next };
+    let mut data = if c.one_in(40) { c.below(40) } else { n }.to_le_bytes().to_vec();
+    data.extend(entries.iter().flat_map(|x| x.to_le_bytes()));
+    damage_list(c, &mut data);
+    (n, size, data)
+}
+
+fn damage_list(c: &mut Chance, data: &mut Vec<u8>) {
+    if c.one_in(8) {
+        damage(c, data);
+    }
+}
+
+/// Four files of a report, and room around what its text needs.
+fn report(c: &mut Chance) -> Case {
+    let kinds: Vec<u8> = (0..1 + c.below(3)).map(|_| c.below(2) as u8).collect();
+    let d = Description { kinds, fields: 1 + c.below(2), capacity: 1 + c.below(1000) };
+    let mut t = tree(c, &d);
+    let mut f = footer(c, &d, t.tiles, &t.root.clone());
+    let mut starts: Vec<u64> = vec![0];
+    while (starts.len() as u64) < t.tiles {
+        let last = *starts.last().unwrap();
+        starts.push(last + 1 + c.below(1000));
+    }
+    let size = starts.last().unwrap() + 1 + c.below(50);
+    let mut numbers: Vec<i128> = vec![d.kinds.len() as i128];
+    numbers.extend(d.kinds.iter().map(|k| if *k == 0 { 32 } else { 64 }));
+    numbers.extend([d.fields as i128, d.capacity as i128, f.file_size as i128, size as i128]);
+    for _ in &d.kinds {
+        let low = c.below(100) as i128 - 40;
+        numbers.extend([low, low + c.of(&[0, 3, 50, -1])]);
+    }
+    let mut lines: Vec<Vec<u8>> = numbers.iter().map(|x| x.to_string().into_bytes()).collect();
+    if c.one_in(6) {
+        let at = c.below(lines.len() as u64) as usize;
+        let bad: [&[u8]; 14] = [
+            b"", b"+5", b"-0", b"00", b"01", b" 5", b"5\r", b"-", b"x", b"18446744073709551616", b"2147483648", b"-2147483649", b"0", b"65",
+        ];
+        lines[at] = c.of(&bad).to_vec();
+    }
+    if c.one_in(20) {
+        lines.pop();
+    }
+    if c.one_in(20) {
+        lines.push(b"7".to_vec());
+    }
+    let mut description = lines.join(&b'\n');
+    if !c.one_in(4) {
+        description.push(b'\n');
+    }
+    let mut offsets = t.tiles.to_le_bytes().to_vec();
+    offsets.extend(starts.iter().flat_map(|x| x.to_le_bytes()));
+    for part in [&mut description, &mut f.data, &mut t.body, &mut offsets] {
+        if c.one_in(12) {
+            damage(c, part);
+        }
+        if c.one_in(400) {
+            part.resize(c.of(&[65_536, 65_537]), 0);
+        }
+    }
+    let length = rules::report(&description, &f.data, &t.body, &offsets).len();
+    let room = c.of(&[0, 1, length - 1, length, length + 1, length + 40]);
+    Case::Report { description, footer: f.data, tree: t.body, offsets, room }
+}
+
+/// A case's byte strings, to be damaged one byte or one length at a time.
+pub fn parts(case: &mut Case) -> Vec<&mut Vec<u8>> {
+    match case {
+        Case::Footer { footer, .. } => vec![footer],
+        Case::Open { footer, tree, .. } => vec![footer, tree],
+        Case::Query { tree, ends, .. } => vec![tree, ends],
+        Case::Offsets { list, .. } | Case::Sizes { list, .. } => vec![list],
+        Case::Report { description, footer, tree, offsets, .. } => vec![description, footer, tree, offsets],
+    }
+}
+
+pub fn make(c: &mut Chance) -> Case {
+    let what = c.below(11);
+    if what == 10 {
+        return report(c);
+    }
+    if what >= 8 {
+        let (tiles, size, list) = list(c, what == 9);
+        let tile = if c.one_in(10) { c.of(&[tiles, u64::MAX]) } else { c.below(tiles.clamp(1, 30)) };
+        return if what == 9 { Case::Sizes { tiles, list } } else { Case::Offsets { tiles, size, list, tile } };
+    }
+    let d = description(c);
+    let p = plain(&d);
+    let mut t = tree(c, &p);
+    if what < 4 {
+        let (kinds, ends) = window(c, &d);
+        let tiles = if c.one_in(40) { c.of(&[0, t.tiles + 1, 65_537, u64::MAX]) } else { t.tiles };
+        if c.one_in(3) {
+            damage(c, &mut t.body);
+        }
+        return Case::Query { d, tiles, tree: t.body, kinds, ends, room: c.below(t.tiles + 3) as usize };
+    }
+    let mut domain = t.root.clone();
+    for side in &mut domain {
+        side.0 -= c.below(2) as i64 * 5;
+        side.1 += c.below(2) as i64 * 5;
+        if c.one_in(60) {
+            side.0 += 1;
+        }
+    }
+    let mut f = footer(c, &p, t.tiles, &domain);
+    if c.one_in(4) {
+        damage(c, &mut f.data);
+    }
+    if what < 6 {
+        let tile = if c.one_in(5) { c.of(&[t.tiles, u64::MAX, t.tiles - 1]) } else { c.below(t.tiles) };
+        return Case::Footer { d, file_size: f.file_size, footer: f.data, tile };
+    }
+    if c.one_in(3) {
+        damage(c, &mut t.body);
+    }
+    Case::Open { d, file_size: f.file_size, footer: f.data, tree: t.body }
+}
+
+#[derive(Clone, Copy)]
+pub enum Slip {
+    Strict,
+    Unsigned,
+    FullRows,
+    Uncounted,
+    LastExtent,
+    LastFull,
+}
+
+/// What a library with this slip would answer, where the slip has a say in the case.
+pub fn wrong(case: &Case, slip: Slip) -> Option<(Vec<u64>, Vec<u32>)> {
+    match (case, slip) {
+        (Case::Query { d, tiles, tree, kinds, ends, room }, Slip::Strict | Slip::Unsigned | Slip::FullRows | Slip::Uncounted) => {
+            rules::query(d, *tiles, tree, kinds, ends).ok()?;
+            let s = rules::shape(d, *tiles, tree).ok()?;
+            let w = rules::window_of(kinds, ends);
+            let (mut found, mut looked) = (vec![], 0);
+            slipped(d, &s, tree, &w, slip, 0, 0, &mut found, &mut looked);
+            let mut out: Vec<u32> = (0..*room as u32).map(|i| 0xdead_0000 + i).collect();
+            let fits = found.len().min(out.len());
+            out[..fits].copy_from_slice(&found[..fits]);
+            Some((vec![0, 0, found.len() as u64, looked], out))
+        }
+        (Case::Offsets { tiles, size, list, tile }, Slip::LastExtent) => {
+            rules::offsets(*tiles, *size, list).ok()?;
+            let (offset, extent) = rules::extent(*tiles, *size, list, *tile);
+            let next = rules::number(list, 8 + 8 * (*tile as usize).saturating_add(1).min(1 << 20), 8);
+            let extent = if *tile < *tiles { next.wrapping_sub(offset) } else { extent };
+            Some((vec![0, 0, *tiles, offset, extent], vec![]))
+        }
+        (Case::Footer { d, file_size, footer, tile }, Slip::LastFull) => {
+            let f = rules::footer(d, *file_size, footer).ok()?;
+            let full = rules::Footer { last_cells: d.capacity, ..f };
+            let mut answer = crate::right(case).0;
+            let last = answer.len() - 2;
+            answer[last] = rules::cells(&full, d.capacity, *tile);
+            Some((answer, vec![]))
+        }
+        _ => None,
+    }
+}
+
+#[allow(clippy::too_many_arguments)]
+fn slipped(
+    d: &Description, s: &rules::Shape, body: &[u8], w: &[rules::Range], slip: Slip, level: usize, k: u64, found: &mut Vec<u32>, looked: &mut u64,
+) {
+    let at = |level: usize, k: u64| rules::stored_box(&d.kinds, body, s.starts[level] + k as usize * d.box_bytes());
+    let here = at(level, k);
+    *looked += 1;
+    let hit = match slip {
+        Slip::Strict => here.iter().zip(w).all(|(b, q)| !q.1.at_most(b.0) && !b.1.at_most(q.0)),
+        Slip::Unsigned => here.iter().zip(w).all(|(b, q)| below_unsigned(b.0, q.1) && below_unsigned(q.0, b.1)),
+        _ => rules::meets(&here, w),
+    };
+    if !hit {
+        return;
+    }
+    if level == s.counts.len() - 1 {
+        found.push(k as u32);
+        return;
+    }
+    let mut last = (k * s.fanout + s.fanout).min(s.counts[level + 1]);
+    if matches!(slip, Slip::FullRows) {
+        last = last.min(s.counts[level + 1] / s.fanout * s.fanout).max(k * s.fanout);
+    }
+    for child in k * s.fanout..last {
+        slipped(d, s, body, w, slip, level + 1, child, found, looked);
+        if matches!(slip, Slip::Uncounted) && rules::inside(&here, w) {
+            *looked -= 1;
+        }
+    }
+}
+
+fn below_unsigned(a: rules::End, b: rules::End) -> bool {
+    match (a, b) {
+        (rules::End::Int(x), rules::End::Int(y)) => x as u64 <= y as u64,
+        _ => a.at_most(b),
+    }
+}

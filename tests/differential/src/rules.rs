@@ -1,0 +1,488 @@
+//! The rules of docs/RULES.md, worked out plainly and slowly: every check where the rules name it, every box by itself.
+
+pub const MOST_TILES: u64 = 65_536;
+
+#[derive(Clone, Copy, Debug, PartialEq)]
+pub struct Refused {
+    pub number: u64,
+    pub place: u64,
+    pub which: u64,
+}
+
+pub type Answer<T> = Result<T, Refused>;
+
+pub fn refuse<T>(number: u64, place: usize) -> Answer<T> {
+    Err(Refused { number, place: place as u64, which: 0 })
+}
+
+/// A description as C has it: one kind number a dimension.
+#[derive(Clone, Debug)]
+pub struct Description {
+    pub kinds: Vec<u8>,
+    pub fields: u64,
+    pub capacity: u64,
+}
+
+pub fn width(kind: u8) -> usize {
+    match kind {
+        0 | 2 => 8,
+        _ => 16,
+    }
+}
+
+impl Description {
+    pub fn check(&self) -> Answer<()> {
+        let kinds = (1..=4).contains(&self.kinds.len()) && self.kinds.iter().all(|k| *k <= 3);
+        if kinds && (1..=64).contains(&self.fields) && (1..=1_000_000_000).contains(&self.capacity) {
+            Ok(())
+        } else {
+            refuse(1, 0)
+        }
+    }
+
+    pub fn box_bytes(&self) -> usize {
+        self.kinds.iter().map(|k| width(*k)).sum()
+    }
+}
+
+pub fn number(data: &[u8], at: usize, size: usize) -> u64 {
+    (0..size).map(|i| (*data.get(at + i).unwrap_or(&0) as u64) << (8 * i)).sum()
+}
+
+/// An end of a range. Ends are compared only within a kind.
+#[derive(Clone, Copy, Debug)]
+pub enum End {
+    Int(i64),
+    Single(f32),
+    Double(f64),
+}
+
+impl End {
+    pub fn read(kind: u8, data: &[u8], at: usize) -> End {
+        match kind {
+            0 => End::Int(number(data, at, 4) as u32 as i32 as i64),
+            1 => End::Int(number(data, at, 8) as i64),
+            2 => End::Single(f32::from_bits(number(data, at, 4) as u32)),
+            _ => End::Double(f64::from_bits(number(data, at, 8))),
+        }
+    }
+
+    pub fn is_nan(self) -> bool {
+        match self {
+            End::Int(_) => false,
+            End::Single(x) => x.is_nan(),
+            End::Double(x) => x.is_nan(),
+        }
+    }
+
+    pub fn at_most(self, other: End) -> bool {
+        match (self, other) {
+            (End::Int(a), End::Int(b)) => a <= b,
+            (End::Single(a), End::Single(b)) => a <= b,
+            (End::Double(a), End::Double(b)) => a <= b,
+            _ => false,
+        }
+    }
+}
+
+pub type Range = (End, End);
+
+pub fn stored_box(kinds: &[u8], data: &[u8], mut at: usize) -> Vec<Range> {
+    let mut sides = vec![];
+    for kind in kinds {
+        let half = width(*kind) / 2;
+        sides.push((End::read(*kind, data, at), End::read(*kind, data, at + half)));
+        at += 2 * half;
+    }
+    sides
+}
+
+fn check_ranges(kinds: &[u8], data: &[u8], mut at: usize) -> Answer<()> {
+    for (kind, (low, high)) in kinds.iter().zip(stored_box(kinds, data, at)) {
+        if low.is_nan() || high.is_nan() {
+            return refuse(8, at);
+        }
+        if !low.at_most(high) {
+            return refuse(9, at);
+        }
+        at += width(*kind);
+    }
+    Ok(())
+}
+
+pub fn inside(inner: &[Range], outer: &[Range]) -> bool {
+    inner.iter().zip(outer).all(|(i, o)| o.0.at_most(i.0) && i.1.at_most(o.1))
+}
+
+pub fn meets(stored: &[Range], window: &[Range]) -> bool {
+    stored.iter().zip(window).all(|(s, w)| s.0.at_most(w.1) && w.0.at_most(s.1))
+}
+
+pub struct Footer {
+    pub numbers: Vec<u64>,
+    pub name: (usize, usize),
+    pub domain: Vec<Range>,
+    pub domain_at: usize,
+    pub lists: Vec<Vec<u64>>,
+    pub tiles: u64,
+    pub last_cells: u64,
+}
+
+pub fn footer(d: &Description, file_size: u64, data: &[u8]) -> Answer<Footer> {
+    d.check()?;
+    if data.len() < 12 {
+        return refuse(2, data.len());
+    }
+    let version = number(data, 0, 4);
+    if !(16..=21).contains(&version) {
+        return refuse(3, 0);
+    }
+    let size = number(data, 4, 8);
+    if !(1..=255).contains(&size) {
+        return refuse(4, 4);
+    }
+    let (n, size) = (d.fields as usize, size as usize);
+    let total = 64 + size + d.box_bytes() + 88 * n;
+    if data.len() != total || file_size < total as u64 {
+        return refuse(2, data.len());
+    }
+    let mut at = 12 + size;
+    for number_of_one in [6, 7] {
+        match data[at] {
+            0 => (),
+            1 => return refuse(number_of_one, at),
+            _ => return refuse(5, at),
+        }
+        at += 1;
+    }
+    let domain_at = at;
+    check_ranges(&d.kinds, data, at)?;
+    let domain = stored_box(&d.kinds, data, at);
+    at += d.box_bytes();
+    let tiles = number(data, at, 8);
+    if !(1..=MOST_TILES).contains(&tiles) {
+        return refuse(10, at);
+    }
+    let last_cells = number(data, at + 8, 8);
+    if !(1..=d.capacity).contains(&last_cells) {
+        return refuse(11, at + 8);
+    }
+    at += 16;
+    let mut flags = [0u64; 2];
+    for flag in &mut flags {
+        if data[at] > 1 {
+            return refuse(5, at);
+        }
+        *flag = data[at] as u64;
+        at += 1;
+    }
+    let mut lists = vec![];
+    for _ in 0..3 {
+        lists.push((0..n).map(|i| number(data, at + 8 * i, 8)).collect::<Vec<_>>());
+        at += 8 * n;
+    }
+    let limit = file_size - total as u64;
+    let offset = |at: &mut usize| -> Answer<u64> {
+        let value = number(data, *at, 8);
+        if value >= limit {
+            return refuse(12, *at);
+        }
+        *at += 8;
+        Ok(value)
+    };
+    let rtree = offset(&mut at)?;
+    for _ in 0..8 {
+        let mut list = vec![];
+        for _ in 0..n {
+            list.push(offset(&mut at)?);
+        }
+        lists.push(list);
+    }
+    let fragment = offset(&mut at)?;
+    let conditions = offset(&mut at)?;
+    let length = number(data, at, 8);
+    if length != total as u64 - 8 {
+        return refuse(2, data.len());
+    }
+    let numbers = vec![version, size as u64, 0, 0, tiles, last_cells, flags[0], flags[1], rtree, fragment, conditions, length];
+    Ok(Footer { numbers, name: (12, size), domain, domain_at, lists, tiles, last_cells })
+}
+
+pub fn cells(f: &Footer, capacity: u64, tile: u64) -> u64 {
+    if tile >= f.tiles {
+        0
+    } else if tile == f.tiles - 1 {
+        f.last_cells
+    } else {
+        capacity
+    }
+}
+
+/// Counts of the levels, root first, and where their boxes start.
+pub struct Shape {
+    pub fanout: u64,
+    pub counts: Vec<u64>,
+    pub starts: Vec<usize>,
+}
+
+pub fn shape(d: &Description, n: u64, body: &[u8]) -> Answer<Shape> {
+    if body.len() < 8 {
+        return refuse(2, body.len());
+    }
+    let fanout = number(body, 0, 4);
+    if !(2..=1024).contains(&fanout) {
+        return refuse(13, 0);
+    }
+    let mut counts = vec![n];
+    while counts[0] > 1 {
+        let above = counts[0] / fanout + u64::from(counts[0] % fanout != 0);
+        counts.insert(0, above);
+    }
+    if number(body, 4, 4) != counts.len() as u64 {
+        return refuse(14, 4);
+    }
+    let b = d.box_bytes();
+    let boxes: u64 = counts.iter().sum();
+    if body.len() != 8 + 8 * counts.len() + b * boxes as usize {
+        return refuse(2, body.len());
+    }
+    let (mut starts, mut at) = (vec![], 8);
+    for count in &counts {
+        if number(body, at, 8) != *count {
+            return refuse(14, at);
+        }
+        starts.push(at + 8);
+        at += 8 + b * *count as usize;
+    }
+    Ok(Shape { fanout, counts, starts })
+}
+
+pub fn open(d: &Description, file_size: u64, foot: &[u8], body: &[u8]) -> Answer<(u64, u64, u64)> {
+    let f = footer(d, file_size, foot)?;
+    second(d, &f, body).map_err(|r| Refused { which: 1, ..r })
+}
+
+fn second(d: &Description, f: &Footer, body: &[u8]) -> Answer<(u64, u64, u64)> {
+    let s = shape(d, f.tiles, body)?;
+    let b = d.box_bytes();
+    for level in 0..s.counts.len() {
+        for k in 0..s.counts[level] {
+            let at = s.starts[level] + k as usize * b;
+            check_ranges(&d.kinds, body, at)?;
+            let here = stored_box(&d.kinds, body, at);
+            if level == 0 {
+                if !inside(&here, &f.domain) {
+                    return refuse(16, at);
+                }
+            } else {
+                let parent = s.starts[level - 1] + (k / s.fanout) as usize * b;
+                if !inside(&here, &stored_box(&d.kinds, body, parent)) {
+                    return refuse(15, at);
+                }
+            }
+        }
+    }
+    Ok((f.tiles, s.fanout, s.counts.len() as u64))
+}
+
+/// The window's ranges, each in its own kind; ends that are not all there count as from 0 to 0.
+pub fn window_of(kinds: &[u8], ends: &[u8]) -> Vec<Range> {
+    let (mut sides, mut at) = (vec![], 0);
+    for kind in kinds {
+        let w = width(*kind);
+        let zeros = [0u8; 16];
+        let part = if at + w <= ends.len() { &ends[at..at + w] } else { &zeros[..w] };
+        sides.push((End::read(*kind, part, 0), End::read(*kind, part, w / 2)));
+        at += w;
+    }
+    sides
+}
+
+pub fn query(d: &Description, n: u64, body: &[u8], kinds: &[u8], ends: &[u8]) -> Answer<(Vec<u32>, u64)> {
+    d.check()?;
+    if !(1..=MOST_TILES).contains(&n) {
+        return refuse(10, 0);
+    }
+    if kinds.len() != d.kinds.len() {
+        return refuse(19, 0);
+    }
+    let window = window_of(kinds, ends);
+    for (i, (low, high)) in window.iter().enumerate() {
+        if kinds[i] != d.kinds[i] {
+            return refuse(19, i);
+        }
+        if low.is_nan() || high.is_nan() {
+            return refuse(8, i);
+        }
+        if !low.at_most(*high) {
+            return refuse(9, i);
+        }
+    }
+    let s = shape(d, n, body)?;
+    let (mut found, mut looked) = (vec![], 0);
+    look(d, &s, body, &window, 0, 0, &mut found, &mut looked);
+    Ok((found, looked))
+}
+
+#[allow(clippy::too_many_arguments)]
+fn look(d: &Description, s: &Shape, body: &[u8], window: &[Range], level: usize, k: u64, found: &mut Vec<u32>, looked: &mut u64) {
+    *looked += 1;
+    if !meets(&stored_box(&d.kinds, body, s.starts[level] + k as usize * d.box_bytes()), window) {
+        return;
+    }
+    if level == s.counts.len() - 1 {
+        found.push(k as u32);
+        return;
+    }
+    for child in k * s.fanout..(k * s.fanout + s.fanout).min(s.counts[level + 1]) {
+        look(d, s, body, window, level + 1, child, found, looked);
+    }
+}
+
+/// The flat listing and the flat count of a body whose shape is right.
+pub fn flat(d: &Description, s: &Shape, body: &[u8], window: &[Range]) -> (Vec<u32>, u64) {
+    let last = s.counts.len() - 1;
+    let at = |level: usize, k: u64| meets(&stored_box(&d.kinds, body, s.starts[level] + k as usize * d.box_bytes()), window);
+    let listing = (0..s.counts[last]).filter(|k| at(last, *k)).map(|k| k as u32).collect();
+    let mut count = 1;
+    for level in 0..last {
+        for k in 0..s.counts[level] {
+            if at(level, k) {
+                count += s.fanout.min(s.counts[level + 1] - k * s.fanout);
+            }
+        }
+    }
+    (listing, count)
+}
+
+fn entries(n: u64, data: &[u8]) -> Answer<Vec<u64>> {
+    if !(1..=MOST_TILES).contains(&n) {
+        return refuse(10, 0);
+    }
+    if data.len() < 8 {
+        return refuse(2, data.len());
+    }
+    if number(data, 0, 8) != n {
+        return refuse(17, 0);
+    }
+    if data.len() as u64 != 8 + 8 * n {
+        return refuse(2, data.len());
+    }
+    Ok((0..n as usize).map(|i| number(data, 8 + 8 * i, 8)).collect())
+}
+
+pub fn offsets(n: u64, size: u64, data: &[u8]) -> Answer<Vec<u64>> {
+    let list = entries(n, data)?;
+    for (i, x) in list.iter().enumerate() {
+        let in_order = if i == 0 { *x == 0 } else { *x > list[i - 1] };
+        if !in_order || *x >= size {
+            return refuse(18, 8 + 8 * i);
+        }
+    }
+    Ok(list)
+}
+
+pub fn extent(n: u64, size: u64, data: &[u8], tile: u64) -> (u64, u64) {
+    match offsets(n, size, data) {
+        Ok(list) if tile < n => {
+            let i = tile as usize;
+            (list[i], list.get(i + 1).copied().unwrap_or(size) - list[i])
+        }
+        _ => (0, 0),
+    }
+}
+
+pub fn sizes(n: u64, data: &[u8]) -> Answer<u64> {
+    let mut sum: u128 = 0;
+    for (i, x) in entries(n, data)?.iter().enumerate() {
+        sum += *x as u128;
+        if sum >= 1 << 64 {
+            return refuse(20, 8 + 8 * i);
+        }
+    }
+    Ok(sum as u64)
+}
+
+/// A decimal number: no leading zeros, a minus only before a nonzero number.
+fn decimal(line: &[u8]) -> Option<i128> {
+    let (minus, digits) = match line.strip_prefix(b"-") {
+        Some(rest) => (true, rest),
+        None => (false, line),
+    };
+    let well = !digits.is_empty() && digits.len() <= 30 && digits.iter().all(u8::is_ascii_digit) && (digits == b"0" || digits[0] != b'0');
+    if !well || (minus && digits == b"0") {
+        return None;
+    }
+    let value = digits.iter().fold(0i128, |n, c| 10 * n + (c - b'0') as i128);
+    Some(if minus { -value } else { value })
+}
+
+struct Asked {
+    d: Description,
+    file_size: u64,
+    size: u64,
+    ends: Vec<u8>,
+}
+
+/// What the description file of a report says.
+fn asked(text: &[u8]) -> Option<Asked> {
+    let mut lines: Vec<&[u8]> = text.split(|c| *c == b'\n').collect();
+    if lines.last() == Some(&&b""[..]) {
+        lines.pop();
+    }
+    let mut lines = lines.into_iter();
+    let mut number = |low: i128, high: i128| lines.next().and_then(decimal).filter(|x| (low..=high).contains(x));
+    let most = u64::MAX as i128;
+    let dimensions = number(1, 4)?;
+    let mut kinds = vec![];
+    for _ in 0..dimensions {
+        kinds.push(match number(32, 64)? {
+            32 => 0,
+            64 => 1,
+            _ => return None,
+        });
+    }
+    let (fields, capacity) = (number(0, most)? as u64, number(0, most)? as u64);
+    let (file_size, size) = (number(0, most)? as u64, number(0, most)? as u64);
+    let mut ends = vec![];
+    for kind in &kinds {
+        for _ in 0..2 {
+            if *kind == 0 {
+                ends.extend((number(i32::MIN as i128, i32::MAX as i128)? as i32).to_le_bytes());
+            } else {
+                ends.extend((number(i64::MIN as i128, i64::MAX as i128)? as i64).to_le_bytes());
+            }
+        }
+    }
+    let d = Description { kinds, fields, capacity };
+    if lines.next().is_some() || d.check().is_err() {
+        return None;
+    }
+    Some(Asked { d, file_size, size, ends })
+}
+
+/// The whole report.
+pub fn report(description: &[u8], foot: &[u8], tree: &[u8], list: &[u8]) -> Vec<u8> {
+    if [description, foot, tree, list].iter().any(|part| part.len() > 65_536) {
+        return b"too long\n".to_vec();
+    }
+    match listing(description, foot, tree, list) {
+        Ok(text) => text.into_bytes(),
+        Err(r) => format!("refused\t{}\t{}\n", r.number, r.place).into_bytes(),
+    }
+}
+
+fn listing(description: &[u8], foot: &[u8], tree: &[u8], list: &[u8]) -> Answer<String> {
+    let Some(a) = asked(description) else { return refuse(1, 0) };
+    let (n, _, _) = open(&a.d, a.file_size, foot, tree)?;
+    let starts = offsets(n, a.size, list)?;
+    let (found, looked) = query(&a.d, n, tree, &a.d.kinds, &a.ends)?;
+    let f = footer(&a.d, a.file_size, foot)?;
+    let mut text = format!("tiles\t{n}\tfound\t{}\tlooked\t{looked}\n", found.len());
+    for tile in found {
+        let i = tile as usize;
+        let end = starts.get(i + 1).copied().unwrap_or(a.size);
+        text += &format!("{tile}\t{}\t{}\t{}\n", starts[i], end - starts[i], cells(&f, a.d.capacity, tile as u64));
+    }
+    Ok(text)
+}
