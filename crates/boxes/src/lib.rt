@@ -371,7 +371,7 @@ pub fn no_box() -> [Side; 4]
     [side; 4]
 }
 
-// The box in its bytes, with an int64 range 0 to 0 in the places past the dimensions. Bytes past the end count 0.
+// The box in its bytes. A place past the dimensions has an int64 range 0 to 0; a range not wholly there is 0 to 0.
 pub fn read_box(bytes: &[u8], kinds: [Dimension; 4], dimensions: u64) -> [Side; 4]
     ensures { λ r. ⌜ r ≡ boxOf kinds (sidesOf dimensions) (now (bytes .entry)) ⌝ }
 {
