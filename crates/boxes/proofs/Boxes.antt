@@ -3,19 +3,23 @@
 -- Assumes nothing.
 use mathlib.Core.Path.{_≡_, refl, sym, ap, _∙_}
 use mathlib.Core.Bool.{Bool, true, _&&_}
-use mathlib.Core.List.{List, [], _∷_}
+use mathlib.Core.List.{List, [], _∷_, _++_}
 use Prim.Native.Nat.{ℕ, zero, suc, _+_, _-_, _≤_, _<_}
 use native.Mathlib.Nat.{add-zero, zero-add, add-suc, suc-add}
 use native.Mathlib.Omega.{arith}
+use lib.IntN.{ℤ}
+use lib.Ieee.{Float}
 use lib.ListN.{getD}
 use borrow.Author.Tests.{lt-ltb}
 use Rattle.answers.specs.Runs.{over, join}
 use Rattle.answers.proofs.Runs.{Each, over-ext, over-left, over-unit, over-says}
+use Rattle.boxes.specs.declared.Range.{Range}
 use Rattle.boxes.specs.declared.Dimension.{Dimension}
 use Rattle.boxes.specs.declared.Side.{Side}
 use Rattle.boxes.specs.Description.{kindAt, sideStart}
 use Rattle.boxes.specs.Ranges.{endsOf, rangeAt, kindOf, inside, meets}
-use Rattle.boxes.specs.Boxes.{rangeIn, all, sideAt, boxOf, boxInside, boxMeets, windowKinds}
+use Rattle.boxes.specs.Boxes.{rangeIn, all, sideAt, boxOf, boxInside, boxMeets, windowKinds, meetsWindow}
+use Rattle.boxes.specs.Layout.{rangeFrom, sidesFrom, firstFour}
 use Rattle.boxes.proofs.Tests.{both, and-assoc, and-true}
 use Rattle.boxes.proofs.Comparing.{inside-trans, meets-around}
 use Rattle.boxes.proofs.Reading.{read-inside-right}
@@ -54,6 +58,28 @@ box-side kinds m bytes i h l = ap (λ (s : Side). s .range) (listed _ _ 0 4 i l)
 pub window-kind : (query : List Side) (i : ℕ) → i < 4 → kindAt (windowKinds query) i ≡ kindOf (rangeIn query i)
 unfolding windowKinds
 window-kind query i l = ap (λ (d : Dimension). d .kind) (listed _ _ 0 4 i l) ∙ rw zero-add
+
+-- the sides that plain numbers stand for
+pub side-from : (kinds : List ℕ) (i32s i64s : List ℤ) (f32s f64s : List Float) (i : ℕ) → i < 4
+    → rangeIn (sidesFrom kinds i32s i64s f32s f64s) i ≡ rangeFrom kinds i32s i64s f32s f64s i
+unfolding sidesFrom
+side-from kinds i32s i64s f32s f64s i l = ap (λ (s : Side). s .range) (listed _ _ 0 4 i l) ∙ rw zero-add
+
+-- four sides of a list
+four-side : (sides : List Side) (i : ℕ) → i < 4 → rangeIn (firstFour sides) i ≡ rangeIn sides i
+unfolding firstFour
+four-side sides i l = ap (λ (s : Side). s .range) (listed _ _ 0 4 i l) ∙ rw zero-add
+
+four-kinds : (sides : List Side) → windowKinds (firstFour sides) ≡ windowKinds sides
+unfolding windowKinds
+four-kinds sides = over-ext _++_ [] _ _ 0 4 (λ i k l. ap (λ (r : Range). record { kind = kindOf r } ∷ []) (four-side sides i (omega arith)))
+
+-- are all that a box is compared with
+pub four-meets : (sides : List Side) (m : ℕ) (bytes : List ℕ) → m ≤ 4 → meetsWindow (firstFour sides) m bytes ≡ meetsWindow sides m bytes
+unfolding boxMeets
+four-meets sides m bytes h =
+    rw (four-kinds sides)
+    (over-ext _&&_ true _ _ 0 m (λ i k l. ap (λ (r : Range). meets (sideAt (windowKinds sides) bytes i) (endsOf r)) (four-side sides i (omega arith))))
 
 -- ---- the laws of ranges, of boxes
 module _ (kinds : List Dimension) (m : ℕ) where

@@ -31,14 +31,17 @@ pub same-kind : (k : Kind) → sameKind k k ≡ true
 same-kind k = eq-eqb (kindNumber k) (kindNumber k) refl
 
 -- of one kind, by two comparisons
+pub meets-ends : (k : Kind) (a b c d : ℕ) {p q x : Bool} → p ≡ atMost k a d → q ≡ atMost k c b → x ≡ (p && q) → x ≡ meets (ends k a b) (ends k c d)
+unfolding meets
+meets-ends k a b c d e f g = g ∙ rw (same-kind k, e, f)
+
 module _ (k : Kind) (a b c d : ℕ) {t p q x : Bool} where
   pub lies-inside : t ≡ true → p ≡ atMost k c a → q ≡ atMost k b d → x ≡ (p && q) → x ≡ lies t (ends k a b) (ends k c d)
   unfolding inside
   lies-inside h e f g = g ∙ rw (h, same-kind k, e, f)
 
   pub lies-meets : t ≡ false → p ≡ atMost k a d → q ≡ atMost k c b → x ≡ (p && q) → x ≡ lies t (ends k a b) (ends k c d)
-  unfolding meets
-  lies-meets h e f g = g ∙ rw (h, same-kind k, e, f)
+  lies-meets h e f g = rw h (meets-ends k a b c d e f g)
 
 -- of different kinds: the tag of s is among ks and that of r is not
 tag-kind : (r : Range) → tagOf the-type r ≡ kindNumber (endsOf r .kind)

@@ -2,7 +2,7 @@
 -- so it is reflexive where there is no NaN, and transitive. Two patterns are alike where they are one, or both a NaN's: then every comparison
 -- tells the same of both.
 -- Assumes nothing.
-use mathlib.Core.Path.{_≡_, sym, _∙_}
+use mathlib.Core.Path.{_≡_, sym, ap, _∙_}
 use mathlib.Core.Logic.{_⊎_, inl, inr}
 use mathlib.Core.Bool.{true, false, not, _&&_}
 use Prim.Native.Nat.{ℕ, _≤_, _<_, _^_}
@@ -59,6 +59,12 @@ module _ (k : Kind) (p q : ℕ) where
   unfolding atMost
   alike-right x (inl e) = rw e
   alike-right x (inr h) = rw (h .0, h .1)
+
+-- a signed number that its width holds stays that number, however often it is passed on
+pub held : (w : Width) (x : ℤ) → mag x < 2 ^ hbits w → toZ w (ofZ w (toZ w (ofZ w (toZ w (ofZ w x))))) ≡ x
+held w x f =
+    let e = toZ-ofZ w x (record { sfits = f }) in
+    ap (λ (z : ℤ). toZ w (ofZ w (toZ w (ofZ w z)))) e ∙ ap (λ (z : ℤ). toZ w (ofZ w z)) e ∙ e
 
 -- signed numbers that were passed on are read back from their bits
 pub as-passed : (w : Width) (x y : ℤ) → mag x < 2 ^ hbits w → mag y < 2 ^ hbits w

@@ -64,3 +64,7 @@ module _ (kinds : List Dimension) where
 -- the kinds of a query's sides
 unfoldable pub windowKinds : List Side → List Dimension
 windowKinds query = join (λ i. record { kind = kindOf (rangeIn query i) } ∷ []) 0 4
+
+-- a box's bytes meet a window, read in the window's kinds
+abbrev pub meetsWindow : List Side → ℕ → List ℕ → Bool
+meetsWindow query m bytes = boxMeets (windowKinds query) m bytes query

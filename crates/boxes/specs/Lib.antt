@@ -4,4 +4,5 @@ pub mod Kinds
 pub mod Description
 pub mod Ranges
 pub mod Boxes
+pub mod Layout
 pub mod Windows

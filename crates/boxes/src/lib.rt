@@ -2,11 +2,12 @@
 use answers::Refusal;
 ghost use mathlib.Core.Path.{_≡_};
 ghost use mathlib.Core.Bool.{false, _&&_};
-ghost use Prim.Native.Nat.{_≤_};
+ghost use Prim.Native.Nat.{_≤_, _<_};
 ghost use Rattle.boxes.specs.Limits.{outside};
 ghost use Rattle.boxes.specs.Kinds.{rangeBytes, kindNumber};
 ghost use Rattle.boxes.specs.Ranges.{kindOf, endsOf, endsAt, rangeAt, judged, judgedRefusal, inside, meets, lies};
-ghost use Rattle.boxes.specs.Boxes.{noBox, boxOf, rangesRefusal, insideRefusal, boxMeets, windowKinds};
+ghost use Rattle.boxes.specs.Boxes.{noBox, boxOf, rangesRefusal, insideRefusal, meetsWindow};
+ghost use Rattle.boxes.specs.Layout.{rangeOfNumbers, rangeFrom, sidesFrom, firstFour};
 ghost use Rattle.boxes.specs.Windows.{sideRefusal, windowRefusal};
 ghost use Rattle.boxes.specs.Description.{descriptionRefusal, sidesOf, boxBytes};
 
@@ -446,53 +447,223 @@ pub fn check_inside(
     }
 }
 
-// Whether the box in these bytes meets a window in each dimension. The box is read in the window's kinds, and the dimensions stand one by one
-// with constant indices: a loop would copy the window for every box.
-pub fn box_meets(bytes: &[u8], dimensions: u64, window: [Side; 4]) -> bool
-    ensures { λ r. ⌜ r ≡ boxMeets (windowKinds window) (sidesOf dimensions) (now (bytes .entry)) window ⌝ }
-{
-    if dimensions == 0 {
-        return true;
-    }
-    let a = window[0];
-    let first = a.range;
-    if !side_meets(bytes, 0, first) {
-        return false;
-    }
-    if dimensions == 1 {
-        return true;
-    }
-    let b = window[1];
-    let second = b.range;
-    let one = first.kind().range_bytes();
-    if !side_meets(bytes, one, second) {
-        return false;
-    }
-    if dimensions == 2 {
-        return true;
-    }
-    let c = window[2];
-    let third = c.range;
-    let two = one + second.kind().range_bytes();
-    if !side_meets(bytes, two, third) {
-        return false;
-    }
-    if dimensions == 3 {
-        return true;
-    }
-    let d = window[3];
-    let fourth = d.range;
-    let three = two + third.kind().range_bytes();
-    side_meets(bytes, three, fourth)
+// A range as plain numbers: its kind number, and its ends among those of its kind, the others 0.
+struct Numbers {
+    kind: u64,
+    i32_low: i32,
+    i32_high: i32,
+    i64_low: i64,
+    i64_high: i64,
+    f32_low: f32,
+    f32_high: f32,
+    f64_low: f64,
+    f64_high: f64,
 }
 
-// Whether the range at a place of a box's bytes meets a window's. It is read in the window's kind.
+// A window's sides as plain numbers, for a walk to lend on from box to box. `kinds` has the kind number of each side, and the array of that kind
+// has its minimum at twice its place and its maximum after it. A walk that is handed the sides themselves copies them for every row.
+pub struct Laid {
+    pub kinds: [u64; 4],
+    pub i32s: [i32; 8],
+    pub i64s: [i64; 8],
+    pub f32s: [f32; 8],
+    pub f64s: [f64; 8],
+}
+
+pub fn lay(sides: [Side; 4]) -> Laid
+    ensures { λ r. ⌜ sidesFrom (r .kinds) (r .i32s) (r .i64s) (r .f32s) (r .f64s) ≡ firstFour sides ⌝ }
+{
+    let first = sides[0];
+    let second = sides[1];
+    let third = sides[2];
+    let fourth = sides[3];
+    let first_range = first.range;
+    let second_range = second.range;
+    let third_range = third.range;
+    let fourth_range = fourth.range;
+    let a = numbers_of(first_range);
+    let b = numbers_of(second_range);
+    let c = numbers_of(third_range);
+    let d = numbers_of(fourth_range);
+    let kinds = [a.kind, b.kind, c.kind, d.kind];
+    let i32s = [
+        a.i32_low,
+        a.i32_high,
+        b.i32_low,
+        b.i32_high,
+        c.i32_low,
+        c.i32_high,
+        d.i32_low,
+        d.i32_high,
+    ];
+    let i64s = [
+        a.i64_low,
+        a.i64_high,
+        b.i64_low,
+        b.i64_high,
+        c.i64_low,
+        c.i64_high,
+        d.i64_low,
+        d.i64_high,
+    ];
+    let f32s = [
+        a.f32_low,
+        a.f32_high,
+        b.f32_low,
+        b.f32_high,
+        c.f32_low,
+        c.f32_high,
+        d.f32_low,
+        d.f32_high,
+    ];
+    let f64s = [
+        a.f64_low,
+        a.f64_high,
+        b.f64_low,
+        b.f64_high,
+        c.f64_low,
+        c.f64_high,
+        d.f64_low,
+        d.f64_high,
+    ];
+    Laid {
+        kinds,
+        i32s,
+        i64s,
+        f32s,
+        f64s,
+    }
+}
+
+fn numbers_of(range: Range) -> Numbers
+    ensures { λ r. ⌜ rangeOfNumbers r ≡ range ⌝ }
+{
+    match range {
+        Range::I32(low, high) => Numbers {
+            kind: 0,
+            i32_low: low,
+            i32_high: high,
+            i64_low: 0,
+            i64_high: 0,
+            f32_low: 0.0,
+            f32_high: 0.0,
+            f64_low: 0.0,
+            f64_high: 0.0,
+        },
+        Range::I64(low, high) => Numbers {
+            kind: 1,
+            i32_low: 0,
+            i32_high: 0,
+            i64_low: low,
+            i64_high: high,
+            f32_low: 0.0,
+            f32_high: 0.0,
+            f64_low: 0.0,
+            f64_high: 0.0,
+        },
+        Range::F32(low, high) => Numbers {
+            kind: 2,
+            i32_low: 0,
+            i32_high: 0,
+            i64_low: 0,
+            i64_high: 0,
+            f32_low: low,
+            f32_high: high,
+            f64_low: 0.0,
+            f64_high: 0.0,
+        },
+        Range::F64(low, high) => Numbers {
+            kind: 3,
+            i32_low: 0,
+            i32_high: 0,
+            i64_low: 0,
+            i64_high: 0,
+            f32_low: 0.0,
+            f32_high: 0.0,
+            f64_low: low,
+            f64_high: high,
+        },
+    }
+}
+
+// A side of those numbers.
+fn laid_range(
+    kinds: &[u64; 4],
+    i32s: &[i32; 8],
+    i64s: &[i64; 8],
+    f32s: &[f32; 8],
+    f64s: &[f64; 8],
+    i: usize,
+) -> Range
+    requires { ⌜ i < 4 ⌝ }
+    ensures { λ r. ⌜ r ≡ rangeFrom (now (kinds .entry)) (now (i32s .entry)) (now (i64s .entry)) (now (f32s .entry)) (now (f64s .entry)) i ⌝ }
+{
+    let kind = kinds[i];
+    let low = 2 * i;
+    let high = low + 1;
+    if kind == 0 {
+        return Range::I32(i32s[low], i32s[high]);
+    }
+    if kind == 1 {
+        return Range::I64(i64s[low], i64s[high]);
+    }
+    if kind == 2 {
+        return Range::F32(f32s[low], f32s[high]);
+    }
+    Range::F64(f64s[low], f64s[high])
+}
+
+// Whether the box in these bytes meets a window, laid out as plain numbers, in each dimension. The box is read in the window's kinds.
+pub fn box_meets(
+    bytes: &[u8],
+    dimensions: u64,
+    kinds: &[u64; 4],
+    i32s: &[i32; 8],
+    i64s: &[i64; 8],
+    f32s: &[f32; 8],
+    f64s: &[f64; 8],
+) -> bool
+    ensures { λ r. ⌜ r ≡ meetsWindow (sidesFrom (now (kinds .entry)) (now (i32s .entry)) (now (i64s .entry)) (now (f32s .entry)) (now (f64s .entry))) (sidesOf dimensions) (now (bytes .entry)) ⌝ }
+{
+    let n = sides_of(dimensions);
+    let mut at: usize = 0;
+    let mut i: usize = 0;
+    while i < n {
+        let range = laid_range(kinds, i32s, i64s, f32s, f64s, i);
+        if !side_meets(bytes, at, range) {
+            return false;
+        }
+        at += range.kind().range_bytes();
+        i += 1;
+    }
+    true
+}
+
+// Whether the range at a place of a box's bytes meets a window's. It is read in the window's kind. Floats are compared by their patterns, so that no NaN
+// is made first.
 fn side_meets(bytes: &[u8], at: usize, query: Range) -> bool
     ensures { λ r. ⌜ r ≡ meets (endsAt (kindOf query) (now (bytes .entry)) at) (endsOf query) ⌝ }
 {
-    let kind = query.kind();
-    let range = range_at(bytes, at, kind);
-    range.meets(query)
+    match query {
+        Range::F32(least, most) => {
+            let ends = order::pair32_at(bytes, at);
+            both(
+                order::f32_pattern_at_most(ends.low, most),
+                order::f32_at_most_pattern(least, ends.high),
+            )
+        }
+        Range::F64(least, most) => {
+            let ends = order::pair64_at(bytes, at);
+            both(
+                order::f64_pattern_at_most(ends.low, most),
+                order::f64_at_most_pattern(least, ends.high),
+            )
+        }
+        _ => {
+            let range = range_at(bytes, at, query.kind());
+            range.meets(query)
+        }
+    }
 }
 
 // 19 for the number of dimensions; then per dimension 19, 8, 9, placed at the dimension.

@@ -1,18 +1,20 @@
 -- What becomes of a pattern that is read as a value, where the value's bits are asked for again? It compares as before, in either format and
 -- at any width: comparing values that were read is comparing patterns. Assumes nothing.
 use mathlib.Core.Path.{_≡_, refl, sym, ap, _∙_, subst}
-use Prim.Native.Nat.{ℕ, _*_, _%_, _≤_, _<_}
-use mathlib.Core.Bool.{Bool, true, false, not, true≢false}
-use lib.Dec.{T}
+use Prim.Native.Nat.{ℕ, _*_, _%_, _<_}
+use mathlib.Core.Bool.{Bool, true, false, not, _&&_, true≢false}
+use lib.Dec.{T, ltb, ltb→lt, lt→ltb}
 use lib.IntN.{ℤ}
+use native.Mathlib.Omega.{arith}
 use lib.Ieee.{Float, nan, inf, fin, Format, binary32, binary64, up, down, div, le, ne, eq, hid, ones, top, ofBits, toBits, nanBits, isNan, fits}
 use lib.Ieee.Bits.{nanBits-above, nanBits-is, ofBits-toBits, ofBits-fits, toBits-ofBits}
 use mir.Syntax.{Width}
 use mir.Val.{Fits, widthOf, toZ, ofZ}
 use mir.ValLaws.{top-pow, ofZ-toZ}
 use denote.Floats.{passes}
-use borrow.Author.Tests.{lt-ltb, le-ltb, eq-eqb}
+use borrow.Author.Tests.{eq-eqb}
 use Rattle.order.specs.Key.{floatAtMost, signedAtMost}
+use Rattle.order.proofs.Tests.{same-test}
 use Rattle.order.proofs.Floats.{le-of-bits}
 
 -- ---- floats
@@ -60,8 +62,17 @@ pub signed-held : (w : Width) (x : ℤ) (p : ℕ) → Fits w p → x ≡ toZ w p
 signed-held w x p h e = ap (λ (z : ℤ). toZ w (ofZ w z)) e ∙ ap (toZ w) (ofZ-toZ w p h)
 
 -- ---- a NaN, told by its magnitude, which is above the infinity's, or by the value, which differs from itself
-pub no-nan : (f : Format) (p : ℕ) → p % top f ≤ ones f * hid f → T (not (nanBits f p))
-no-nan f p l = subst (λ (b : Bool). T (not b)) (sym (nanBits-above f p ∙ le-ltb (ones f * hid f) (p % top f) l)) tt
+pub nan-doubled : (f : Format) (p : ℕ) → ltb (2 * (ones f * hid f)) (2 * (p % top f)) ≡ nanBits f p
+nan-doubled f p =
+    let i = ones f * hid f in
+    let m = p % top f in
+    same-test (ltb (2 * i) (2 * m)) (ltb i m)
+    (λ t. lt→ltb i m (omega (arith, ltb→lt (2 * i) (2 * m) t)))
+    (λ t. lt→ltb (2 * i) (2 * m) (omega (arith, ltb→lt i m t)))
+    ∙ sym (nanBits-above f p)
+
+pub no-nan : (f : Format) (p : ℕ) → nanBits f p ≡ false → T (not (nanBits f p))
+no-nan f p h = subst (λ (b : Bool). T (not b)) (sym h) tt
 
 is-nan : (x : Float) → isNan x ≡ true → nan ≡ x
 unfolding isNan
@@ -75,10 +86,21 @@ unfolding div ofBits
 zero-by-zero binary32 = refl
 zero-by-zero binary64 = refl
 
-pub made-nan : (f : Format) (p : ℕ) → ones f * hid f < p % top f → div f (ofBits f 0) (ofBits f 0) ≡ ofBits f p
-made-nan f p l =
-    zero-by-zero f
-    ∙ is-nan (ofBits f p) (sym (nanBits-is f p) ∙ nanBits-above f p ∙ lt-ltb (ones f * hid f) (p % top f) l)
+pub made-nan : (f : Format) (p : ℕ) → nanBits f p ≡ true → div f (ofBits f 0) (ofBits f 0) ≡ ofBits f p
+made-nan f p h = zero-by-zero f ∙ is-nan (ofBits f p) (sym (nanBits-is f p) ∙ h)
+
+-- it is in no order
+pub nan-left : (f : Format) (p q : ℕ) → nanBits f p ≡ true → false ≡ floatAtMost f p q
+unfolding floatAtMost
+nan-left f p q h = rw h
+
+pub nan-right : (f : Format) (p q : ℕ) → nanBits f q ≡ true → false ≡ floatAtMost f p q
+unfolding floatAtMost
+nan-right f p q h = rw h (go (not (nanBits f p)))
+  where
+    go : (b : Bool) → false ≡ (b && false)
+    go true = refl
+    go false = refl
 
 ne-itself : (x : Float) → ne x x ≡ isNan x
 unfolding ne eq isNan

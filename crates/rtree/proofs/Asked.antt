@@ -15,12 +15,14 @@ use Rattle.answers.specs.Runs.{pick}
 use Rattle.answers.specs.Laid.{laid}
 use Rattle.answers.proofs.Checks.{go-on, halt, both-clear, clear, check-clear}
 use Rattle.boxes.specs.declared.Description.{Description}
+use Rattle.boxes.specs.declared.Side.{Side}
 use Rattle.boxes.specs.declared.Window.{Window}
 use Rattle.boxes.specs.Limits.{leastTiles, mostTiles, Sizes}
 use Rattle.boxes.specs.Description.{sidesOf, boxBytes}
+use Rattle.boxes.specs.Layout.{firstFour}
 use Rattle.boxes.specs.Windows.{windowRefusal}
 use Rattle.boxes.proofs.Limits.{Kept, within, kept}
-use Rattle.boxes.proofs.Boxes.{box-meets-around}
+use Rattle.boxes.proofs.Boxes.{box-meets-around, four-meets}
 use Rattle.boxes.proofs.Windows.{window-meets}
 use Rattle.tree.specs.Shape.{height, levels, bodyBytes}
 use Rattle.tree.specs.AnyNumbers.{mostWidth, levelTable}
@@ -120,10 +122,13 @@ module _ (d : Description) (n : ℕ) (body : List ℕ) (w : Window) where
         ∙ go-on (frontRefusal body) (levelsRefusal n (boxBytes d) body) front
         )
 
-  -- what the code sees with its plan
-  seen-meeting : windowRefusal d w .number ≡ 0 → seen body (planned d n body) (w .sides) ≡ meeting d n body w
+  -- what the code sees with its plan, and the window's sides laid out
+  seen-meeting : windowRefusal d w .number ≡ 0 → seen body (planned d n body) (firstFour (w .sides)) ≡ meeting d n body w
   unfolding seen meeting
-  seen-meeting h = fun-ext (λ j. fun-ext (λ k. window-meets d w h (boxAt n (boxBytes d) body j k)))
+  seen-meeting h =
+      fun-ext (λ j. fun-ext (λ k.
+      let box = boxAt n (boxBytes d) body j k in
+      four-meets (w .sides) (sidesOf (d .dimensions)) box (omega arith) ∙ window-meets d w h box))
 
   shaped : Cleared d n body w → {table : List ℕ} → table ≡ levelTable n (fanoutOf body) → Shaped body table (planned d n body)
   shaped p t = record {
@@ -172,17 +177,17 @@ module _ (d : Description) (n : ℕ) (body : List ℕ) (w : Window) where
       go false e h = h
 
   -- the code's walk: its row has a `Row`, and it comes to what the definition says
-  module _ {p : Plan} {table : List ℕ} {depth : ℕ} (pass : Cleared d n body w) (same : p ≡ planned d n body) (tabled : table ≡ levelTable n (fanoutOf body))
-      (deep : depth ≡ levelsOf body - 1) (out : List ℕ) where
+  module _ {p : Plan} {table : List ℕ} {sides : List Side} {depth : ℕ} (pass : Cleared d n body w) (same : p ≡ planned d n body)
+      (tabled : table ≡ levelTable n (fanoutOf body)) (lent : sides ≡ firstFour (w .sides)) (deep : depth ≡ levelsOf body - 1) (out : List ℕ) where
     root : depth ≡ height (fanoutOf body) n
     unfolding levels
     root = omega (arith, pass .deep)
 
-    pub walk-row-asked : length body < 2 ^ 64 → Row body table p (w .sides) (record { distance = depth; start = 16; count = 1 }) 0 1 (0, 0, out)
-    walk-row-asked fits = rw same (root-row (w .sides) (shaped pass tabled) out root fits)
+    pub walk-row-asked : length body < 2 ^ 64 → Row body table p sides (record { distance = depth; start = 16; count = 1 }) 0 1 (0, 0, out)
+    walk-row-asked fits = rw same (root-row sides (shaped pass tabled) out root fits)
 
-    walk-comes-to : walked body p (w .sides) depth 0 1 (0, 0, out) ≡ (lookedAt d n body w, length (foundAt d n body w), laid (foundAt d n body w) out)
-    walk-comes-to = rw same (comes-to (w .sides) (shaped pass tabled) out root ∙ rw (seen-meeting (pass .windowed)))
+    walk-comes-to : walked body p sides depth 0 1 (0, 0, out) ≡ (lookedAt d n body w, length (foundAt d n body w), laid (foundAt d n body w) out)
+    walk-comes-to = rw same (comes-to sides (shaped pass tabled) out root ∙ rw (lent, seen-meeting (pass .windowed)))
 
   -- what follows from the answer and the buffer
   module _ {r : Answer} (told : r ≡ queryAnswer d n body w) where
@@ -233,13 +238,13 @@ module _ (d : Description) (n : ℕ) (body : List ℕ) (w : Window) where
       → (out : List ℕ) → Promised d n body w a out out
   refusing e some told out = promised (told ∙ refused-answer e some) out (refused-buffer e some out)
 
-  pub answering : (clear : queryRefusal d n body w .number ≡ 0) {p : Plan} {table : List ℕ} {depth : ℕ} → p ≡ planned d n body
-      → table ≡ levelTable n (fanoutOf body) → depth ≡ levelsOf body - 1 → (out : List ℕ) {walk : Walk} {left : List ℕ}
-      → state walk left ≡ walked body p (w .sides) depth 0 1 (0, 0, out)
+  pub answering : (clear : queryRefusal d n body w .number ≡ 0) {p : Plan} {table : List ℕ} {sides : List Side} {depth : ℕ} → p ≡ planned d n body
+      → table ≡ levelTable n (fanoutOf body) → sides ≡ firstFour (w .sides) → depth ≡ levelsOf body - 1 → (out : List ℕ) {walk : Walk} {left : List ℕ}
+      → state walk left ≡ walked body p sides depth 0 1 (0, 0, out)
       → Promised d n body w (record { number = 0; place = 0; found = walk .found; looked = walk .count }) out left
-  answering clear same tabled deep out {walk} {left} e =
+  answering clear same tabled lent deep out {walk} {left} e =
       let all : state walk left ≡ (lookedAt d n body w, length (foundAt d n body w), laid (foundAt d n body w) out) =
-      e ∙ walk-comes-to (passed clear) same tabled deep out in
+      e ∙ walk-comes-to (passed clear) same tabled lent deep out in
       promised
       (rw (ap (λ (s : State). s .1) all, ap (λ (s : State). s .0) all) (sym (clear-answer clear)))
       out

@@ -10,7 +10,7 @@ use lib.ListN.{length, getD, set, take, drop}
 use Rattle.boxes.specs.declared.Side.{Side}
 use Rattle.boxes.specs.Limits.{mostTiles}
 use Rattle.boxes.specs.Description.{sidesOf}
-use Rattle.boxes.specs.Boxes.{boxMeets, windowKinds}
+use Rattle.boxes.specs.Boxes.{meetsWindow}
 use Rattle.tree.specs.Shape.{boxes, children, levelStart}
 use Rattle.tree.specs.Walk.{State}
 use Rattle.tree.proofs.Shape.{boxes-le, first-child, row-there}
@@ -55,7 +55,7 @@ module _ {body table : List ℕ} {p : Plan} {w : List Side} {at : Level} {k : �
   down-fits = omega (arith, root-near (row .shape .sizes))
 
   module _ {count : ℕ} {b : Bool} (one-more : count ≡ s .0 + 1)
-      (told : b ≡ boxMeets (windowKinds w) (sidesOf (p .dimensions)) (take (p .width) (drop (at .start + k * p .width) body)) w) where
+      (told : b ≡ meetsWindow w (sidesOf (p .dimensions)) (take (p .width) (drop (at .start + k * p .width) body))) where
     here : seen body p w (at .distance) k ≡ b
     unfolding seen
     here = rw (← (row .start)) (sym told)

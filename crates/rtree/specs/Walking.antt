@@ -10,7 +10,7 @@ use Rattle.answers.specs.declared.Refusal.{Refusal}
 use Rattle.boxes.specs.declared.Side.{Side}
 use Rattle.boxes.specs.Limits.{Sizes}
 use Rattle.boxes.specs.Description.{sidesOf}
-use Rattle.boxes.specs.Boxes.{boxMeets, windowKinds}
+use Rattle.boxes.specs.Boxes.{meetsWindow}
 use Rattle.tree.specs.Shape.{boxes, height, levelStart, bodyBytes}
 use Rattle.tree.specs.AnyNumbers.{levelTable}
 use Rattle.tree.specs.Walk.{State, look, run}
@@ -30,8 +30,8 @@ rootAt counts l = ltb 0 l && eqb (getD counts (l - 1) 0) 1
 -- box k of the level at distance j, read in the window's kinds, meets the window
 unfoldable pub seen : List ℕ → Plan → List Side → ℕ → ℕ → Bool
 seen body p w j k =
-    boxMeets (windowKinds w) (sidesOf (p .dimensions))
-    (take (p .width) (drop (levelStart (p .fanout) (p .tiles) (p .width) j + k * p .width) body)) w
+    meetsWindow w (sidesOf (p .dimensions))
+    (take (p .width) (drop (levelStart (p .fanout) (p .tiles) (p .width) j + k * p .width) body))
 
 -- the count, the number found, the buffer
 abbrev pub state : Walk → List ℕ → State

@@ -11,7 +11,8 @@ ghost use Rattle.answers.specs.Runs.{sum};
 ghost use Rattle.answers.specs.Checks.{otherwise};
 ghost use Rattle.boxes.specs.Limits.{leastTiles, mostTiles, Sizes};
 ghost use Rattle.boxes.specs.Description.{sidesOf, boxBytes};
-ghost use Rattle.boxes.specs.Boxes.{boxMeets, windowKinds};
+ghost use Rattle.boxes.specs.Boxes.{meetsWindow};
+ghost use Rattle.boxes.specs.Layout.{sidesFrom};
 ghost use Rattle.tree.specs.Shape.{levels, bodyBytes};
 ghost use Rattle.tree.specs.AnyNumbers.{mostWidth, levelTable};
 ghost use Rattle.rtree.specs.Body.{fanoutOf, frontRefusal, countsRefusal, levelsRefusal, shapeRefusal};
@@ -130,6 +131,12 @@ pub fn query(
         dimensions: description.dimensions,
     };
     let sides = window.sides;
+    let laid = boxes::lay(sides);
+    let kinds = laid.kinds;
+    let i32s = laid.i32s;
+    let i64s = laid.i64s;
+    let f32s = laid.f32s;
+    let f64s = laid.f64s;
     let depth = order::u32_at(body, 4) as usize - 1;
     let root = Level {
         distance: depth,
@@ -140,7 +147,11 @@ pub fn query(
         body,
         &counts,
         plan,
-        sides,
+        &kinds,
+        &i32s,
+        &i64s,
+        &f32s,
+        &f64s,
         root,
         0,
         1,
@@ -338,16 +349,20 @@ fn look_at(
     place: usize,
     width: usize,
     dimensions: u64,
-    window: [Side; 4],
+    kinds: &[u64; 4],
+    i32s: &[i32; 8],
+    i64s: &[i64; 8],
+    f32s: &[f32; 8],
+    f64s: &[f64; 8],
     count: usize,
 ) -> Looked
     requires { ⌜ place + width ≤ length (now body) ⌝ }
     requires { ⌜ count + 1 < 2 ^ 64 ⌝ }
-    ensures { λ r. ⌜ (r .meets ≡ boxMeets (windowKinds window) (sidesOf dimensions) (take width (drop place (now (body .entry)))) window) × (r .count ≡ count + 1) ⌝ }
+    ensures { λ r. ⌜ (r .meets ≡ meetsWindow (sidesFrom (now (kinds .entry)) (now (i32s .entry)) (now (i64s .entry)) (now (f32s .entry)) (now (f64s .entry))) (sidesOf dimensions) (take width (drop place (now (body .entry))))) × (r .count ≡ count + 1) ⌝ }
 {
     let end = place + width;
     let bytes = &body[place..end];
-    let meets = boxes::box_meets(bytes, dimensions, window);
+    let meets = boxes::box_meets(bytes, dimensions, kinds, i32s, i64s, f32s, f64s);
     Looked {
         meets: meets,
         count: count + 1,
@@ -369,17 +384,32 @@ fn visit(
     body: &[u8],
     counts: &[usize; 25],
     plan: Plan,
-    window: [Side; 4],
+    kinds: &[u64; 4],
+    i32s: &[i32; 8],
+    i64s: &[i64; 8],
+    f32s: &[f32; 8],
+    f64s: &[f64; 8],
     at: Level,
     k: usize,
     out: &mut [u32],
     walk: Walk,
 ) -> Walk
-    requires { ⌜ Row (now body) (now counts) plan window at k 1 (state walk (now out)) ⌝ }
-    ensures { λ r. ⌜ state r (now (out .exit)) ≡ visited (now (body .entry)) plan window (at .distance) k (state walk (now (out .entry))) ⌝ }
+    requires { ⌜ Row (now body) (now counts) plan (sidesFrom (now kinds) (now i32s) (now i64s) (now f32s) (now f64s)) at k 1 (state walk (now out)) ⌝ }
+    ensures { λ r. ⌜ state r (now (out .exit)) ≡ visited (now (body .entry)) plan (sidesFrom (now (kinds .entry)) (now (i32s .entry)) (now (i64s .entry)) (now (f32s .entry)) (now (f64s .entry))) (at .distance) k (state walk (now (out .entry))) ⌝ }
 {
     let place = at.start + k * plan.width;
-    let seen = look_at(body, place, plan.width, plan.dimensions, window, walk.count);
+    let seen = look_at(
+        body,
+        place,
+        plan.width,
+        plan.dimensions,
+        kinds,
+        i32s,
+        i64s,
+        f32s,
+        f64s,
+        walk.count,
+    );
     let count = seen.count;
     let found = walk.found;
     if seen.meets {
@@ -406,7 +436,11 @@ fn visit(
                 body,
                 counts,
                 plan,
-                window,
+                kinds,
+                i32s,
+                i64s,
+                f32s,
+                f64s,
                 next,
                 first,
                 len,
@@ -429,21 +463,38 @@ fn walk_row(
     body: &[u8],
     counts: &[usize; 25],
     plan: Plan,
-    window: [Side; 4],
+    kinds: &[u64; 4],
+    i32s: &[i32; 8],
+    i64s: &[i64; 8],
+    f32s: &[f32; 8],
+    f64s: &[f64; 8],
     at: Level,
     first: usize,
     len: usize,
     out: &mut [u32],
     walk: Walk,
 ) -> Walk
-    requires { ⌜ Row (now body) (now counts) plan window at first len (state walk (now out)) ⌝ }
-    ensures { λ r. ⌜ state r (now (out .exit)) ≡ walked (now (body .entry)) plan window (at .distance) first len (state walk (now (out .entry))) ⌝ }
+    requires { ⌜ Row (now body) (now counts) plan (sidesFrom (now kinds) (now i32s) (now i64s) (now f32s) (now f64s)) at first len (state walk (now out)) ⌝ }
+    ensures { λ r. ⌜ state r (now (out .exit)) ≡ walked (now (body .entry)) plan (sidesFrom (now (kinds .entry)) (now (i32s .entry)) (now (i64s .entry)) (now (f32s .entry)) (now (f64s .entry))) (at .distance) first len (state walk (now (out .entry))) ⌝ }
 {
     let mut sofar = walk;
     let mut k = first;
     let mut left = len;
     while 0 < left {
-        sofar = visit(body, counts, plan, window, at, k, out, sofar);
+        sofar = visit(
+            body,
+            counts,
+            plan,
+            kinds,
+            i32s,
+            i64s,
+            f32s,
+            f64s,
+            at,
+            k,
+            out,
+            sofar,
+        );
         k += 1;
         left -= 1;
     }

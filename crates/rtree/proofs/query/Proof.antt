@@ -76,11 +76,12 @@ returns-3 c =
 returns-4 : tie.Need-returns-4
 returns-4 c =
     let k = c .before .before in
-    let u = k .before .before .before in
-    let e = u .before .before in
+    let u = k .before .before .before .before .before .before .before .before in
+    let y = u .before .before .before .before .before .before in
+    let e = y .before .before in
     let t = e .before .before .before .before in
     let x = t .before .before .before .before .before .before .before .before .before .before .before .args in
-    answering (x .description) (x .tiles) (x .body .now) (x .window) (clear e) (plan (t .before)) (tabled t)
+    answering (x .description) (x .tiles) (x .body .now) (x .window) (clear e) (plan (t .before)) (tabled t) (y .lay .ensures)
     (ap (λ (l : ℕ). l - 1) (u .u32-at2 .ensures)) (x .out .now) (k .walk-row .ensures)
 
 pub query-spec : {M : Type 1} → statement M
@@ -108,20 +109,22 @@ query-spec =
     (λ c κs. search needs)
     returns-3
     (λ c κs. search needs)
+    (λ c κs. search needs)
     (λ c. search needs)
     (λ c.
-    let e = c .before .before in
+    let e = c .before .before .before .before .before .before .before .before in
     let x = e .before .before .before .before .before .before .before .before .before .before .before .before .before .before .before .args in
     let p = passed (x .description) (x .tiles) (x .body .now) (x .window) (clear e) in
     rw (c .u32-at2 .ensures) (some-level (x .description) (x .tiles) (x .body .now) (x .window) p))
     (λ c κs.
-    let u = c .before .before in
-    let e = u .before .before in
+    let u = c .before .before .before .before .before .before .before in
+    let y = u .before .before .before .before .before .before in
+    let e = y .before .before in
     let t = e .before .before .before .before in
     let s = t .before .before .before .before .before .before .before .before .before .before .before in
     let x = s .args in
     let p = passed (x .description) (x .tiles) (x .body .now) (x .window) (clear e) in
-    walk-row-asked (x .description) (x .tiles) (x .body .now) (x .window) p (plan (t .before)) (tabled t)
+    walk-row-asked (x .description) (x .tiles) (x .body .now) (x .window) p (plan (t .before)) (tabled t) (y .lay .ensures)
     (ap (λ (l : ℕ). l - 1) (u .u32-at2 .ensures)) (x .out .now) (s .good .1 .1 .0 .0))
     (λ c. search needs)
     returns-4)
