@@ -1,0 +1,584 @@
+"""Tussockbell for Python: which data tiles of a sparse TileDB fragment does a window touch?
+
+    import tussockbell as tb
+
+    d = tb.Description(["int32", "float64"], fields=3, capacity=1000)
+    footer = tb.read_footer(d, file_size, footer_bytes)
+    tree = tb.open_tree(d, file_size, footer_bytes, tree_bytes)
+    hit = tree.query([(0, 10), (-1.5, 2.5)])
+    offsets = tb.tile_offsets(footer.tiles, data_file_size, list_bytes)
+    for tile in hit.tiles:
+        offset, extent = offsets[tile]
+
+Every function asks the proved library, and raises `Refused`, with a number and a place, where the library refuses.
+docs/RULES.md has the rules. Numbers outside the limits are refused like any other bad input, however large or small they are.
+
+Bytes may be bytes, a bytearray, a memoryview or an mmap, read-only or not. They are lent to the library as they are, with no
+copy; only a memoryview whose bytes do not lie one after the other is copied first. Anything that has no bytes to lend is a
+TypeError.
+
+The library is the file that the environment variable TUSSOCKBELL_LIBRARY names, else build/libtussockbell.so of the checkout
+that this file is in. All functions may be called from several threads at once.
+"""
+
+from __future__ import annotations
+
+import ctypes
+import math
+import mmap
+import operator
+import os
+import pathlib
+import struct
+from array import array
+from collections.abc import Iterable, Iterator, Sequence
+from contextlib import contextmanager
+from dataclasses import dataclass, field
+from typing import Any, NamedTuple, Optional, SupportsFloat, SupportsIndex, Tuple, Union, overload
+
+__all__ = [
+    "Description", "Footer", "Hit", "Offsets", "Refused", "Tree", "Window",
+    "open_tree", "query", "read_footer", "tile_offsets", "tile_sizes",
+]
+
+Bytes = Union[bytes, bytearray, memoryview, mmap.mmap]
+Kind = Union[str, SupportsIndex, None]
+End = Union[SupportsIndex, SupportsFloat, bytes, bytearray]
+Range = Tuple[End, End]
+
+# ---- the names of include/tussockbell.h, without their TUSSOCKBELL
+
+_INT32, _INT64, _FLOAT32, _FLOAT64 = range(4)
+
+_TEXTS = {
+    0: "not refused",
+    1: "description outside the limits",
+    2: "byte count or length field wrong",
+    3: "version outside the limits",
+    4: "name size outside the limits",
+    5: "a flag byte is neither 0 nor 1",
+    6: "dense flag is 1",
+    7: "null-domain flag is 1",
+    8: "a range end is NaN",
+    9: "minimum above maximum",
+    10: "tile number outside the limits",
+    11: "last tile's cells not 1 to the capacity",
+    12: "an offset not below the footer's place in the file",
+    13: "fanout outside the limits",
+    14: "level number or a level's box count wrong",
+    15: "a box not inside its parent",
+    16: "the first box not inside the domain",
+    17: "a list's count is not the number of tiles",
+    18: "tile offsets break their rule",
+    19: "the window's dimension number or a kind differs",
+    20: "tile sizes add up past 2^64 - 1",
+}
+
+_NUMBER, _PLACE = 0, 1
+_FOOTER_DOMAIN, _DOMAIN_KIND, _DOMAIN_LOW, _DOMAIN_HIGH, _DOMAIN_PLACES = 14, 0, 1, 2, 3
+_FOOTER_LIST_PLACES, _FOOTER_PLACES = 64, 730
+_NAME_START, _NAME_LENGTH, _NAME_PLACES = 0, 1, 2
+_OPEN_WHICH, _OPEN_TILES, _OPEN_FANOUT, _OPEN_LEVELS, _OPEN_PLACES = 2, 3, 4, 5, 6
+_QUERY_FOUND, _QUERY_LOOKED, _QUERY_PLACES = 2, 3, 4
+_OFFSETS_TILES, _OFFSETS_PLACES = 2, 3
+_EXTENT_OFFSET, _EXTENT_LENGTH, _EXTENT_PLACES = 0, 1, 2
+_SIZES_SUM, _SIZES_PLACES = 2, 3
+
+# Places of the footer's answer, by the attribute that they become.
+_FOOTER_NUMBERS = {
+    "version": 2, "name_size": 3, "dense": 4, "null_domain": 5, "tiles": 6, "last_tile_cells": 7, "timestamps": 8, "deletes": 9,
+    "rtree": 10, "fragment": 11, "conditions": 12, "length": 13,
+}
+_FOOTER_LISTS = {
+    "file_sizes": 26, "file_var_sizes": 90, "file_validity_sizes": 154, "tile_offsets": 218, "var_offsets": 282, "var_sizes": 346,
+    "validity": 410, "mins": 474, "maxes": 538, "sums": 602, "null_counts": 666,
+}
+
+# ---- the library
+
+
+def _load() -> ctypes.CDLL:
+    built = pathlib.Path(__file__).resolve().parents[2] / "build" / "libtussockbell.so"
+    path = os.path.abspath(os.environ.get("TUSSOCKBELL_LIBRARY") or built)
+    try:
+        return ctypes.CDLL(path)
+    except OSError as error:
+        advice = "run `make lib` in the checkout, or set TUSSOCKBELL_LIBRARY to the path of libtussockbell.so"
+        raise OSError(f"{error}: {advice}") from error
+
+
+_library = _load()
+_u64, _pointer = ctypes.c_uint64, ctypes.c_void_p
+_bytes = [_pointer, ctypes.c_size_t]
+_description = [*_bytes, _u64, _u64]
+_footer = [*_description, _u64, *_bytes]
+_list = [_u64, _u64, *_bytes]
+
+
+def _function(name: str, arguments: list[Any], result: Any = None) -> Any:
+    function = getattr(_library, "tussockbell_" + name)
+    function.argtypes, function.restype = arguments, result
+    return function
+
+
+_c_footer = _function("footer", [*_footer, _pointer])
+_c_schema_name = _function("schema_name", [*_footer, _pointer])
+_c_cells = _function("cells", [*_footer, _u64], _u64)
+_c_total_cells = _function("total_cells", _footer, _u64)
+_c_open = _function("open", [*_footer, *_bytes, _pointer])
+_c_query = _function("query", [*_description, _u64, *_bytes, *_bytes, *_bytes, *_bytes, _pointer])
+_c_offsets = _function("offsets", [*_list, _pointer])
+_c_extent_at = _function("extent_at", [*_list, _u64, _pointer])
+_c_sizes = _function("sizes", [_u64, *_bytes, _pointer])
+
+_FooterAnswer = _u64 * _FOOTER_PLACES
+_NameAnswer = _u64 * _NAME_PLACES
+_OpenAnswer = _u64 * _OPEN_PLACES
+_QueryAnswer = _u64 * _QUERY_PLACES
+_OffsetsAnswer = _u64 * _OFFSETS_PLACES
+_ExtentAnswer = _u64 * _EXTENT_PLACES
+_SizesAnswer = _u64 * _SIZES_PLACES
+
+
+class Refused(Exception):
+    """Raised where the library refuses.
+
+    `number` says why and `text` says it in words. `place` counts in the bytes that were lent, or in the window's dimensions.
+    `which` is 1 where the place counts in the second of two byte strings (the tree of `open_tree`), and 0 elsewhere.
+    """
+
+    def __init__(self, number: int, place: int, which: int = 0) -> None:
+        super().__init__(number, place, which)
+        self.number, self.place, self.which = number, place, which
+
+    @property
+    def text(self) -> str:
+        return _TEXTS.get(self.number, "no refusal number")
+
+    def __str__(self) -> str:
+        return f"refused {self.number} at {self.place}{' of the second byte string' if self.which else ''}: {self.text}"
+
+    def __eq__(self, other: object) -> bool:
+        return self.args == other.args if isinstance(other, Refused) else NotImplemented
+
+    def __hash__(self) -> int:
+        return hash(self.args)
+
+
+def _check(answer: Any, which: int = 0) -> None:
+    if answer[_NUMBER]:
+        raise Refused(answer[_NUMBER], answer[_PLACE], which)
+
+
+# ---- lending bytes
+
+
+class _Buffer(ctypes.Structure):
+    """Python's Py_buffer."""
+
+    _fields_ = [
+        ("buf", ctypes.c_void_p), ("obj", ctypes.c_void_p), ("len", ctypes.c_ssize_t), ("itemsize", ctypes.c_ssize_t),
+        ("readonly", ctypes.c_int), ("ndim", ctypes.c_int), ("format", ctypes.c_void_p), ("shape", ctypes.c_void_p),
+        ("strides", ctypes.c_void_p), ("suboffsets", ctypes.c_void_p), ("internal", ctypes.c_void_p),
+    ]
+
+
+_simple = 0  # PyBUF_SIMPLE
+_get_buffer = ctypes.PYFUNCTYPE(ctypes.c_int, ctypes.py_object, _pointer, ctypes.c_int)(("PyObject_GetBuffer", ctypes.pythonapi))
+_release_buffer = ctypes.PYFUNCTYPE(None, _pointer)(("PyBuffer_Release", ctypes.pythonapi))
+
+
+def _lend(data: Bytes) -> memoryview:
+    """A view of bytes that lie one after the other. While it is not released they can neither move nor go."""
+    view = memoryview(data)
+    if view.c_contiguous:
+        return view
+    with view:
+        return memoryview(view.tobytes())
+
+
+def _lent(view: memoryview) -> tuple[Optional[int], int]:
+    """Where a view's bytes are, and how many: what a C function takes. Good until the view is released."""
+    held = _Buffer()
+    _get_buffer(view, ctypes.byref(held), _simple)
+    try:
+        return held.buf, held.len
+    finally:
+        _release_buffer(ctypes.byref(held))
+
+
+@contextmanager
+def _kept(data: Bytes) -> Iterator[memoryview]:
+    """A view that is released only where something is raised; otherwise whoever keeps it holds the bytes."""
+    view = _lend(data)
+    try:
+        yield view
+    except BaseException:
+        view.release()
+        raise
+
+
+# ---- numbers
+
+_LARGEST = 2**64 - 1
+_NO_KIND = 255
+_NAMES = {"int32": _INT32, "int64": _INT64, "float32": _FLOAT32, "float64": _FLOAT64}
+_FORMATS = {_INT32: "<i", _INT64: "<q", _FLOAT32: "<f", _FLOAT64: "<d"}
+_WIDTHS = {kind: struct.calcsize(one) for kind, one in _FORMATS.items()}
+# Both ends at once, where nothing has to be looked at first.
+_PAIRS = {kind: struct.Struct(one + one[1]).pack for kind, one in _FORMATS.items() if kind != _FLOAT32}
+# A result buffer is as many of these as it has places; a place is a uint32_t.
+_ONE_TILE = array("I", [0])
+# Enough for the zero ends of a range of any kind.
+_NO_ENDS = bytes(16)
+
+
+def _limited(number: SupportsIndex) -> int:
+    """A number that has limits. One outside u64 becomes the largest, which is outside all of them."""
+    number = operator.index(number)
+    return number if 0 <= number <= _LARGEST else _LARGEST
+
+
+def _file_size(size: SupportsIndex) -> int:
+    """A size that may be any u64; outside of that it counts as the nearest."""
+    return min(max(operator.index(size), 0), _LARGEST)
+
+
+def _kind_byte(kind: Kind) -> int:
+    if isinstance(kind, str):
+        return _NAMES.get(kind, _NO_KIND)
+    try:
+        number = operator.index(kind)  # type: ignore[arg-type]
+    except TypeError:
+        return _NO_KIND
+    return number if number in _FORMATS else _NO_KIND
+
+
+def _kind_bytes(kinds: Iterable[Kind]) -> bytes:
+    return bytes(map(_kind_byte, kinds))
+
+
+def _rounded_once(whole: int) -> float:
+    """An integer as a float that a float32 can be made of: cut to 53 bits, of which the last is set where the cut lost anything.
+    The nearest float32 of that is the nearest of the integer."""
+    spare = max(whole.bit_length() - 53, 0)
+    cut = whole >> spare
+    return float((cut | (cut << spare != whole)) << spare)
+
+
+def _float_pattern(kind: int, end: Any) -> bytes:
+    try:
+        number = _rounded_once(end) if kind == _FLOAT32 and isinstance(end, int) else float(end)
+        return struct.pack(_FORMATS[kind], number)
+    except OverflowError:
+        return struct.pack(_FORMATS[kind], math.inf if end > 0 else -math.inf)
+
+
+def _integer_pattern(kind: int, end: Any) -> Optional[bytes]:
+    whole = int(end)
+    return whole.to_bytes(_WIDTHS[kind], "little", signed=True) if whole == end else None
+
+
+def _pattern(kind: int, end: Any) -> Optional[bytes]:
+    """The little-endian bytes of an end, or None where its kind can't hold it."""
+    if isinstance(end, (bytes, bytearray)):
+        return bytes(end) if len(end) == _WIDTHS.get(kind) else None
+    if hasattr(type(end), "__index__"):
+        end = operator.index(end)
+    elif not hasattr(type(end), "__float__"):
+        raise TypeError(f"a window's end is a number or its bytes, not {type(end).__name__}")
+    try:
+        if kind in (_INT32, _INT64):
+            return _integer_pattern(kind, end)
+        return _float_pattern(kind, end) if kind in _FORMATS else None
+    except (OverflowError, ValueError):
+        return None
+
+
+def _side_bytes(kind: int, side: Any) -> Optional[bytes]:
+    """The minimum and the maximum of a side, or None where it is no pair or its kind can't hold an end."""
+    try:
+        low, high = side
+    except (TypeError, ValueError):
+        return None
+    try:
+        return _PAIRS[kind](low, high)
+    except (KeyError, struct.error, OverflowError):
+        pass
+    first, second = _pattern(kind, low), _pattern(kind, high)
+    return None if first is None or second is None else first + second
+
+
+def _window_bytes(kinds: bytes, sides: Sequence[Any]) -> tuple[bytes, bytes]:
+    """Kinds and ends as the library takes them. A side that its kind can't hold has no kind."""
+    given, ends = bytearray(kinds), []
+    for i, side in enumerate(sides):
+        pair = _side_bytes(kinds[i], side)
+        if pair is None:
+            given[i], pair = _NO_KIND, _NO_ENDS
+        ends.append(pair)
+    return bytes(given), b"".join(ends)
+
+
+# ---- what users see
+
+
+@dataclass(frozen=True)
+class Description:
+    """What is known of a fragment beforehand, from the array's schema.
+
+    `kinds` has a kind for each dimension: "int32", "int64", "float32", "float64", or TileDB's Datatype number of it (0 to 3).
+    `fields` is the number of entries in each per-field list of the footer. `capacity` is the cells of a full tile.
+
+    A description is not checked when it is made. One outside the limits is refused (1 at 0) where it is used.
+    """
+
+    kinds: Sequence[Kind]
+    fields: int
+    capacity: int
+    # What the C functions take: kinds, their number, fields and capacity.
+    _given: tuple[bytes, int, int, int] = field(init=False, repr=False, compare=False)
+
+    def __post_init__(self) -> None:
+        kinds = tuple(self.kinds)
+        given = _kind_bytes(kinds)
+        object.__setattr__(self, "kinds", kinds)
+        object.__setattr__(self, "_given", (given, len(given), _limited(self.fields), _limited(self.capacity)))
+
+
+class Window:
+    """A window with kinds of its own, made once and asked with many times.
+
+        tb.Window(["int32", "int64"], [(low, high), (low, high)])
+
+    A plain list of pairs does for most: it takes the kinds of the description. A window's dimensions are as many as its kinds or
+    its ranges, whichever are more; what is then missing is of no kind, and refused (19).
+
+    Each end counts as inside. An end is a number or, to give its exact pattern, its little-endian bytes (4 or 8, as its kind
+    has). For an integer kind it is an integer, or another number that is whole. For a float kind it is rounded to the nearest
+    number of that kind, and past the largest to an infinity. Stored ends are numbers of that kind, and rounding keeps the order,
+    so no tile is lost that the exact window touches. An end that its kind can't hold, such as 1.5 or 2**40 for int32, and a side
+    that is no pair, are refused as another kind (19 at the dimension). An end that is neither number nor bytes is a TypeError.
+    """
+
+    __slots__ = ("_kinds", "_ends")
+
+    def __init__(self, kinds: Iterable[Kind], ranges: Iterable[Range]) -> None:
+        given, sides = _kind_bytes(kinds), list(ranges)
+        dimensions = max(len(given), len(sides))
+        self._kinds, self._ends = _window_bytes(
+            given.ljust(dimensions, bytes([_NO_KIND])), sides + [None] * (dimensions - len(sides))
+        )
+
+
+class Hit(NamedTuple):
+    """What a query answers.
+
+    `tiles` are the tiles found, counted from 0, rising; the first ones where there was less room. `found` is how many there are
+    in all, and `looked` is how many boxes of the tree were looked at.
+    """
+
+    tiles: list[int]
+    found: int
+    looked: int
+
+
+@dataclass(frozen=True)
+class Footer:
+    """The numbers of a fragment's footer. It holds no bytes of the caller's.
+
+    `domain` has the minimum and the maximum of each dimension. The lists have an entry for each field. `total_cells` are the
+    cells of all tiles, and `cells(tile)` those of one.
+    """
+
+    version: int
+    name_size: int
+    schema_name: bytes
+    dense: int
+    null_domain: int
+    domain: tuple[tuple[Union[int, float], Union[int, float]], ...]
+    tiles: int
+    last_tile_cells: int
+    timestamps: int
+    deletes: int
+    file_sizes: tuple[int, ...]
+    file_var_sizes: tuple[int, ...]
+    file_validity_sizes: tuple[int, ...]
+    rtree: int
+    tile_offsets: tuple[int, ...]
+    var_offsets: tuple[int, ...]
+    var_sizes: tuple[int, ...]
+    validity: tuple[int, ...]
+    mins: tuple[int, ...]
+    maxes: tuple[int, ...]
+    sums: tuple[int, ...]
+    null_counts: tuple[int, ...]
+    fragment: int
+    conditions: int
+    length: int
+    total_cells: int
+    # What the C functions take; the footer's bytes are a copy, of some thousand bytes at most.
+    _given: tuple[Any, ...] = field(repr=False)
+
+    def cells(self, tile: SupportsIndex) -> int:
+        """The cells of a tile, counted from 0; 0 for any number that is no tile."""
+        return _c_cells(*self._given, _limited(tile))
+
+
+def _domain_range(answer: Any, dimension: int) -> tuple[Union[int, float], Union[int, float]]:
+    start = _FOOTER_DOMAIN + dimension * _DOMAIN_PLACES
+    one = _FORMATS[answer[start + _DOMAIN_KIND]]
+    low, high = (answer[start + end].to_bytes(8, "little") for end in (_DOMAIN_LOW, _DOMAIN_HIGH))
+    return struct.unpack_from(one, low)[0], struct.unpack_from(one, high)[0]
+
+
+def read_footer(description: Description, file_size: SupportsIndex, footer: Bytes) -> Footer:
+    """Reads the footer of a metadata file of `file_size` bytes."""
+    before = (*description._given, _file_size(file_size))
+    answer, name = _FooterAnswer(), _NameAnswer()
+    with _lend(footer) as view:
+        _c_footer(*before, *_lent(view), answer)
+        _check(answer)
+        copy = bytes(view)
+    given = (*before, copy, len(copy))
+    _c_schema_name(*given, name)
+    start = name[_NAME_START]
+    numbers: dict[str, Any] = {at: answer[place] for at, place in _FOOTER_NUMBERS.items()}
+    numbers.update({at: tuple(answer[place : place + description.fields]) for at, place in _FOOTER_LISTS.items()})
+    return Footer(
+        **numbers,
+        schema_name=copy[start : start + name[_NAME_LENGTH]],
+        domain=tuple(_domain_range(answer, i) for i in range(len(description.kinds))),
+        total_cells=_c_total_cells(*given),
+        _given=given,
+    )
+
+
+def _ask(
+    description: Description, tiles: int, tree: tuple[Optional[int], int], window: Union[Window, Iterable[Range]],
+    room: Optional[SupportsIndex],
+) -> Hit:
+    if isinstance(window, Window):
+        kinds, ends = window._kinds, window._ends
+    else:
+        sides = window if isinstance(window, (list, tuple)) else list(window)
+        kinds = description._given[0]
+        if len(kinds) != len(sides):
+            kinds = kinds[: len(sides)].ljust(len(sides), bytes([_NO_KIND]))
+        kinds, ends = _window_bytes(kinds, sides)
+    # Each box has 8 bytes at least, so there are never more tiles to find.
+    most = min(tiles, tree[1] // 8)
+    places = most if room is None else min(max(operator.index(room), 0), most)
+    out, answer = _ONE_TILE * places, _QueryAnswer()
+    _c_query(*description._given, tiles, *tree, kinds, len(kinds), ends, len(ends), out.buffer_info()[0], places, answer)
+    _check(answer)
+    found = answer[_QUERY_FOUND]
+    return Hit(out[:found].tolist(), found, answer[_QUERY_LOOKED])
+
+
+def query(
+    description: Description, tiles: SupportsIndex, tree: Bytes, window: Union[Window, Iterable[Range]],
+    room: Optional[SupportsIndex] = None,
+) -> Hit:
+    """Which tiles does a window touch, in a tree of that many tiles?
+
+    The window is a pair of ends for each dimension, or a `Window`, which says what an end may be. With `room` no more than that
+    many tiles are listed, the first ones. The tree's boxes are not checked: over bytes that `open_tree` would refuse, the answer
+    is what the walk says.
+    """
+    with _lend(tree) as view:
+        return _ask(description, _limited(tiles), _lent(view), window, room)
+
+
+class Tree:
+    """An opened tree: `tiles`, `fanout`, `levels`, and `query`. `open_tree` makes it.
+
+    It keeps hold of the tree's bytes for as long as it lives, with no copy. They must stay as they are: a query does not check
+    them again.
+    """
+
+    __slots__ = ("description", "tiles", "fanout", "levels", "_view", "_lent")
+
+    def __init__(self, description: Description, view: memoryview, answer: Any) -> None:
+        self.description, self._view, self._lent = description, view, _lent(view)
+        self.tiles: int = answer[_OPEN_TILES]
+        self.fanout: int = answer[_OPEN_FANOUT]
+        self.levels: int = answer[_OPEN_LEVELS]
+
+    def query(self, window: Union[Window, Iterable[Range]], room: Optional[SupportsIndex] = None) -> Hit:
+        """Which tiles does a window touch? Exactly those whose box meets it, in rising order.
+
+        The window is a pair of ends for each dimension, or a `Window`, which says what an end may be. With `room` no more than
+        that many tiles are listed, the first ones.
+        """
+        return _ask(self.description, self.tiles, self._lent, window, room)
+
+
+def open_tree(description: Description, file_size: SupportsIndex, footer: Bytes, tree: Bytes) -> Tree:
+    """Opens a footer and a tree together, and checks every box.
+
+    The tree's bytes must stay as they are while the `Tree` is in use.
+    """
+    answer = _OpenAnswer()
+    with _lend(footer) as first, _kept(tree) as view:
+        _c_open(*description._given, _file_size(file_size), *_lent(first), *_lent(view), answer)
+        _check(answer, answer[_OPEN_WHICH])
+        return Tree(description, view, answer)
+
+
+class Offsets(Sequence[Tuple[int, int]]):
+    """Checked tile offsets: for each tile where its bytes start in the data file, and how many they are.
+
+    `tile_offsets` makes it. Indices and slices are as those of a list.
+
+    It keeps hold of the list's bytes for as long as it lives, with no copy. They must stay as they are: they are not checked
+    again.
+    """
+
+    __slots__ = ("_tiles", "_view", "_given")
+
+    def __init__(self, tiles: int, size: int, view: memoryview) -> None:
+        self._tiles, self._view, self._given = tiles, view, (tiles, size, *_lent(view))
+
+    def __len__(self) -> int:
+        return self._tiles
+
+    @overload
+    def __getitem__(self, tile: SupportsIndex) -> tuple[int, int]: ...
+
+    @overload
+    def __getitem__(self, tile: slice) -> list[tuple[int, int]]: ...
+
+    def __getitem__(self, tile: Union[SupportsIndex, slice]) -> Union[tuple[int, int], list[tuple[int, int]]]:
+        if isinstance(tile, slice):
+            return [self._extent(i) for i in range(self._tiles)[tile]]
+        try:
+            return self._extent(range(self._tiles)[tile])
+        except IndexError:
+            raise IndexError("no such tile") from None
+
+    def _extent(self, tile: int) -> tuple[int, int]:
+        answer = _ExtentAnswer()
+        _c_extent_at(*self._given, tile, answer)
+        return answer[_EXTENT_OFFSET], answer[_EXTENT_LENGTH]
+
+
+def tile_offsets(tiles: SupportsIndex, data_file_size: SupportsIndex, offsets: Bytes) -> Offsets:
+    """Checks the tile offsets of a data file of `data_file_size` bytes.
+
+    The list's bytes must stay as they are while the `Offsets` are in use.
+    """
+    number, size, answer = _limited(tiles), _file_size(data_file_size), _OffsetsAnswer()
+    with _kept(offsets) as view:
+        _c_offsets(number, size, *_lent(view), answer)
+        _check(answer)
+        return Offsets(answer[_OFFSETS_TILES], size, view)
+
+
+def tile_sizes(tiles: SupportsIndex, sizes: Bytes) -> int:
+    """Checks tile sizes, and adds them up."""
+    answer = _SizesAnswer()
+    with _lend(sizes) as view:
+        _c_sizes(_limited(tiles), *_lent(view), answer)
+    _check(answer)
+    return answer[_SIZES_SUM]
