@@ -1,0 +1,160 @@
+//! The exported C functions, each behind a safe one: slices in, the whole answer array out.
+//!
+//! What makes every call sound is said once here. The C functions take any input. They read within the lengths that
+//! they are given, write every place of the answer array and nothing past it, write to a result buffer within its
+//! length, and keep no pointer. A slice's pointer is valid for its length; that of an empty one may dangle, and
+//! nothing is read or written through it. An answer array has the places that the header asks for, and a `&mut`
+//! overlaps nothing else that is lent.
+
+use crate::places::{
+    EXTENT_PLACES, FOOTER_PLACES, NAME_PLACES, OFFSETS_PLACES, OPEN_PLACES, QUERY_PLACES, SIZES_PLACES,
+};
+use crate::{Description, Kind};
+
+#[rustfmt::skip] // one line a row of parameters, as in the header
+extern "C" {
+    fn tussockbell_footer(kinds: *const u8, kinds_length: usize, fields: u64, capacity: u64, file_size: u64,
+                          footer: *const u8, footer_length: usize, answer: *mut u64);
+    fn tussockbell_schema_name(kinds: *const u8, kinds_length: usize, fields: u64, capacity: u64, file_size: u64,
+                               footer: *const u8, footer_length: usize, answer: *mut u64);
+    fn tussockbell_cells(kinds: *const u8, kinds_length: usize, fields: u64, capacity: u64, file_size: u64,
+                         footer: *const u8, footer_length: usize, tile: u64) -> u64;
+    fn tussockbell_total_cells(kinds: *const u8, kinds_length: usize, fields: u64, capacity: u64, file_size: u64,
+                               footer: *const u8, footer_length: usize) -> u64;
+    fn tussockbell_open(kinds: *const u8, kinds_length: usize, fields: u64, capacity: u64, file_size: u64,
+                        footer: *const u8, footer_length: usize, tree: *const u8, tree_length: usize,
+                        answer: *mut u64);
+    fn tussockbell_query(kinds: *const u8, kinds_length: usize, fields: u64, capacity: u64, tiles: u64,
+                         tree: *const u8, tree_length: usize, window_kinds: *const u8, window_kinds_length: usize,
+                         window_ends: *const u8, window_ends_length: usize, out: *mut u32, out_length: usize,
+                         answer: *mut u64);
+    fn tussockbell_offsets(tiles: u64, size: u64, list: *const u8, list_length: usize, answer: *mut u64);
+    fn tussockbell_extent_at(tiles: u64, size: u64, list: *const u8, list_length: usize, tile: u64, answer: *mut u64);
+    fn tussockbell_sizes(tiles: u64, list: *const u8, list_length: usize, answer: *mut u64);
+    fn tussockbell_report(description: *const u8, description_length: usize, footer: *const u8, footer_length: usize,
+                          tree: *const u8, tree_length: usize, offsets: *const u8, offsets_length: usize,
+                          out: *mut u8, out_length: usize) -> usize;
+}
+
+/// Kinds as bytes: a [`Kind`] is its number in one byte, so that nothing is copied.
+fn bytes(kinds: &[Kind]) -> *const u8 {
+    kinds.as_ptr().cast()
+}
+
+/// A description and a footer that are asked about together, with the size of the metadata file.
+#[derive(Clone, Copy)]
+pub(crate) struct Asked<'a> {
+    pub description: Description<'a>,
+    pub file_size: u64,
+    pub footer: &'a [u8],
+}
+
+/// Calls one of the functions that start with a description and a footer.
+macro_rules! with_footer {
+    ($function:ident, $asked:expr $(, $more:expr)*) => {{
+        let Asked { description: d, file_size, footer } = $asked;
+        let (kinds, kinds_length) = (bytes(d.kinds), d.kinds.len());
+        $function(kinds, kinds_length, d.fields, d.capacity, file_size, footer.as_ptr(), footer.len() $(, $more)*)
+    }};
+}
+
+pub(crate) fn footer(asked: Asked) -> [u64; FOOTER_PLACES] {
+    let mut answer = [0; FOOTER_PLACES];
+    // SAFETY: pointers and lengths of slices, and an answer array of the header's places.
+    unsafe { with_footer!(tussockbell_footer, asked, answer.as_mut_ptr()) };
+    answer
+}
+
+pub(crate) fn schema_name(asked: Asked) -> [u64; NAME_PLACES] {
+    let mut answer = [0; NAME_PLACES];
+    // SAFETY: pointers and lengths of slices, and an answer array of the header's places.
+    unsafe { with_footer!(tussockbell_schema_name, asked, answer.as_mut_ptr()) };
+    answer
+}
+
+pub(crate) fn cells(asked: Asked, tile: u64) -> u64 {
+    // SAFETY: pointers and lengths of slices.
+    unsafe { with_footer!(tussockbell_cells, asked, tile) }
+}
+
+pub(crate) fn total_cells(asked: Asked) -> u64 {
+    // SAFETY: pointers and lengths of slices.
+    unsafe { with_footer!(tussockbell_total_cells, asked) }
+}
+
+pub(crate) fn open(asked: Asked, tree: &[u8]) -> [u64; OPEN_PLACES] {
+    let mut answer = [0; OPEN_PLACES];
+    // SAFETY: pointers and lengths of slices, and an answer array of the header's places.
+    unsafe { with_footer!(tussockbell_open, asked, tree.as_ptr(), tree.len(), answer.as_mut_ptr()) };
+    answer
+}
+
+pub(crate) fn query(
+    d: &Description,
+    tiles: u64,
+    tree: &[u8],
+    window_kinds: &[Kind],
+    window_ends: &[u8],
+    out: &mut [u32],
+) -> [u64; QUERY_PLACES] {
+    let mut answer = [0; QUERY_PLACES];
+    // SAFETY: pointers and lengths of slices, an answer array of the header's places, and a buffer lent to nobody else.
+    unsafe {
+        tussockbell_query(
+            bytes(d.kinds),
+            d.kinds.len(),
+            d.fields,
+            d.capacity,
+            tiles,
+            tree.as_ptr(),
+            tree.len(),
+            bytes(window_kinds),
+            window_kinds.len(),
+            window_ends.as_ptr(),
+            window_ends.len(),
+            out.as_mut_ptr(),
+            out.len(),
+            answer.as_mut_ptr(),
+        )
+    };
+    answer
+}
+
+pub(crate) fn offsets(tiles: u64, size: u64, list: &[u8]) -> [u64; OFFSETS_PLACES] {
+    let mut answer = [0; OFFSETS_PLACES];
+    // SAFETY: a slice's pointer and length, and an answer array of the header's places.
+    unsafe { tussockbell_offsets(tiles, size, list.as_ptr(), list.len(), answer.as_mut_ptr()) };
+    answer
+}
+
+pub(crate) fn extent_at(tiles: u64, size: u64, list: &[u8], tile: u64) -> [u64; EXTENT_PLACES] {
+    let mut answer = [0; EXTENT_PLACES];
+    // SAFETY: a slice's pointer and length, and an answer array of the header's places.
+    unsafe { tussockbell_extent_at(tiles, size, list.as_ptr(), list.len(), tile, answer.as_mut_ptr()) };
+    answer
+}
+
+pub(crate) fn sizes(tiles: u64, list: &[u8]) -> [u64; SIZES_PLACES] {
+    let mut answer = [0; SIZES_PLACES];
+    // SAFETY: a slice's pointer and length, and an answer array of the header's places.
+    unsafe { tussockbell_sizes(tiles, list.as_ptr(), list.len(), answer.as_mut_ptr()) };
+    answer
+}
+
+pub(crate) fn report(description: &[u8], footer: &[u8], tree: &[u8], offsets: &[u8], out: &mut [u8]) -> usize {
+    // SAFETY: pointers and lengths of slices, and a buffer lent to nobody else.
+    unsafe {
+        tussockbell_report(
+            description.as_ptr(),
+            description.len(),
+            footer.as_ptr(),
+            footer.len(),
+            tree.as_ptr(),
+            tree.len(),
+            offsets.as_ptr(),
+            offsets.len(),
+            out.as_mut_ptr(),
+            out.len(),
+        )
+    }
+}

@@ -1,0 +1,73 @@
+//! Which data tiles of a sparse TileDB fragment does a window touch?
+//!
+//! Tussockbell reads the fragment's metadata and answers. The library under this crate is proved to do what its
+//! contracts say, for every input; this crate lends it slices and gives its answers names and types. It copies none of
+//! the bytes, and only [`Tree::tiles_in`] allocates.
+//!
+//! - [`read_footer`] reads the footer of `__fragment_metadata.tdb`: every number of it.
+//! - [`open_tree`] opens a footer and an R-tree together and checks every box; the [`Tree`] answers windows.
+//! - [`query`] answers a window over a tree's plain bytes.
+//! - [`tile_offsets`] and [`tile_sizes`] read a field's lists.
+//! - [`report`] writes the report of four files as text.
+//!
+//! Every function takes any input. Bad input is [`Refused`], with a number and a place, and a result buffer then holds
+//! what it held before. Trees and lists are the bodies of their generic tiles, already unfiltered.
+//!
+//! ```
+//! use tussockbell::{query, Description, Kind, Range};
+//!
+//! // Three tiles with the ranges 0 to 4, 10 to 14 and 20 to 24 of one int32 dimension.
+//! let tree = [
+//!     2, 0, 0, 0, 3, 0, 0, 0,
+//!     1, 0, 0, 0, 0, 0, 0, 0, 0, 0, 0, 0, 24, 0, 0, 0,
+//!     2, 0, 0, 0, 0, 0, 0, 0, 0, 0, 0, 0, 14, 0, 0, 0, 20, 0, 0, 0, 24, 0, 0, 0,
+//!     3, 0, 0, 0, 0, 0, 0, 0, 0, 0, 0, 0, 4, 0, 0, 0, 10, 0, 0, 0, 14, 0, 0, 0, 20, 0, 0, 0, 24, 0, 0, 0,
+//! ];
+//! let description = Description { kinds: &[Kind::Int32], fields: 1, capacity: 32 };
+//! let mut out = [0; 8];
+//! let answer = query(&description, 3, &tree, &[Range::Int32(12, 21)], &mut out)?;
+//! assert_eq!(answer.tiles, [1, 2]);
+//! assert_eq!(answer.looked, 6);
+//! # Ok::<(), tussockbell::Refused>(())
+//! ```
+//!
+//! The crate links `libtussockbell.a`, which `make lib` puts into the checkout's `build/`. The environment variable
+//! `TUSSOCKBELL_LIB_DIR` names another folder.
+
+#![deny(missing_docs)]
+#![deny(unsafe_code)]
+#![deny(unsafe_op_in_unsafe_fn)]
+
+#[allow(unsafe_code)]
+mod ffi;
+mod footer;
+mod lists;
+mod places;
+mod ranges;
+mod refused;
+mod tree;
+
+pub use footer::{read_footer, Footer};
+pub use lists::{tile_offsets, tile_sizes, Extent, TileOffsets};
+pub use ranges::{Description, Kind, Range};
+pub use refused::{Refused, Which};
+pub use tree::{open_tree, query, Answer, Tree};
+
+/// The report of the contents of four files: description, footer, tree and offsets.
+///
+/// Returns the length of its text, and writes the text, which is ASCII, at the start of `out` if all of it fits;
+/// otherwise `out` stays as it was.
+///
+/// ```
+/// use tussockbell::report;
+///
+/// let files = ["description", "footer", "tree", "offsets"];
+/// let [description, footer, tree, offsets] =
+///     files.map(|name| std::fs::read(format!("../../tests/fixtures/sample/{name}")).unwrap());
+/// let mut out = [0; 100];
+/// let length = report(&description, &footer, &tree, &offsets, &mut out);
+/// assert_eq!(&out[..length], b"tiles\t3\tfound\t2\tlooked\t6\n1\t100\t150\t32\n2\t250\t50\t5\n");
+/// ```
+pub fn report(description: &[u8], footer: &[u8], tree: &[u8], offsets: &[u8], out: &mut [u8]) -> usize {
+    ffi::report(description, footer, tree, offsets, out)
+}

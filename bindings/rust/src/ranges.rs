@@ -1,0 +1,140 @@
+//! Kinds, descriptions, ranges, and a window as the library takes it.
+
+use crate::{Refused, Which};
+
+/// The kind of a dimension, by TileDB's own Datatype number.
+#[derive(Clone, Copy, Debug, PartialEq, Eq, Hash)]
+#[repr(u8)]
+pub enum Kind {
+    /// 32-bit integers, two's complement.
+    Int32 = 0,
+    /// 64-bit integers, two's complement.
+    Int64 = 1,
+    /// 32-bit floats, IEEE 754.
+    Float32 = 2,
+    /// 64-bit floats, IEEE 754.
+    Float64 = 3,
+}
+
+impl Kind {
+    /// The bytes of one end of a range.
+    fn width(self) -> usize {
+        match self {
+            Kind::Int32 | Kind::Float32 => 4,
+            Kind::Int64 | Kind::Float64 => 8,
+        }
+    }
+}
+
+/// The kind of a Datatype number. Any other number is refused as a description with it would be.
+///
+/// ```
+/// use tussockbell::{Kind, Refused};
+///
+/// assert_eq!(Kind::try_from(2), Ok(Kind::Float32));
+/// assert_eq!(Kind::try_from(4).unwrap_err().number, Refused::DESCRIPTION);
+/// ```
+impl TryFrom<u8> for Kind {
+    type Error = Refused;
+
+    fn try_from(number: u8) -> Result<Kind, Refused> {
+        let kinds = [Kind::Int32, Kind::Int64, Kind::Float32, Kind::Float64];
+        let refused = Refused { number: Refused::DESCRIPTION, place: 0, which: Which::First };
+        kinds.get(usize::from(number)).copied().ok_or(refused)
+    }
+}
+
+/// What has to be known of an array to read its fragments.
+///
+/// It may hold any values: each function checks all of it, and refuses one outside the limits with
+/// [`Refused::DESCRIPTION`] at 0.
+#[derive(Clone, Copy, Debug, PartialEq, Eq, Hash)]
+pub struct Description<'a> {
+    /// The kind of each dimension, 1 to 4 of them.
+    pub kinds: &'a [Kind],
+    /// The entries of each per-field list of a footer, 1 to 64.
+    pub fields: u64,
+    /// The cells of a full tile, 1 to 1,000,000,000.
+    pub capacity: u64,
+}
+
+/// One side of a window or of a domain: a minimum and a maximum, both of them in the range.
+#[derive(Clone, Copy, Debug, PartialEq)]
+pub enum Range {
+    /// A range of 32-bit integers.
+    Int32(i32, i32),
+    /// A range of 64-bit integers.
+    Int64(i64, i64),
+    /// A range of 32-bit floats.
+    Float32(f32, f32),
+    /// A range of 64-bit floats.
+    Float64(f64, f64),
+}
+
+impl Range {
+    /// The kind of both ends.
+    pub fn kind(&self) -> Kind {
+        match self {
+            Range::Int32(..) => Kind::Int32,
+            Range::Int64(..) => Kind::Int64,
+            Range::Float32(..) => Kind::Float32,
+            Range::Float64(..) => Kind::Float64,
+        }
+    }
+
+    /// The range whose ends have these bit patterns, an end of 4 bytes in the low half.
+    pub(crate) fn from_bits(kind: Kind, low: u64, high: u64) -> Range {
+        match kind {
+            Kind::Int32 => Range::Int32(low as i32, high as i32),
+            Kind::Int64 => Range::Int64(low as i64, high as i64),
+            Kind::Float32 => Range::Float32(f32::from_bits(low as u32), f32::from_bits(high as u32)),
+            Kind::Float64 => Range::Float64(f64::from_bits(low), f64::from_bits(high)),
+        }
+    }
+
+    /// The bit patterns of the minimum and the maximum, in the low bytes where an end has 4.
+    fn to_bits(self) -> [u64; 2] {
+        match self {
+            Range::Int32(low, high) => [low as u64, high as u64],
+            Range::Int64(low, high) => [low as u64, high as u64],
+            Range::Float32(low, high) => [low.to_bits().into(), high.to_bits().into()],
+            Range::Float64(low, high) => [low.to_bits(), high.to_bits()],
+        }
+    }
+}
+
+/// One side more than any description that is not refused has. So a window of even more sides is refused like its first
+/// five: with 1 or 10, or else with 19 at 0 since the number of sides differs, before any side is looked at.
+const MOST_SIDES: usize = 5;
+
+/// A window as the library takes it: the kinds of its sides, and their ends, little-endian, one after the other.
+pub(crate) struct Window {
+    kinds: [Kind; MOST_SIDES],
+    sides: usize,
+    ends: [u8; 16 * MOST_SIDES],
+    bytes: usize,
+}
+
+impl Window {
+    pub(crate) fn new(sides: &[Range]) -> Window {
+        let mut window = Window { kinds: [Kind::Int32; MOST_SIDES], sides: 0, ends: [0; 16 * MOST_SIDES], bytes: 0 };
+        for side in sides.iter().take(MOST_SIDES) {
+            window.kinds[window.sides] = side.kind();
+            window.sides += 1;
+            for end in side.to_bits() {
+                let bytes = &end.to_le_bytes()[..side.kind().width()];
+                window.ends[window.bytes..][..bytes.len()].copy_from_slice(bytes);
+                window.bytes += bytes.len();
+            }
+        }
+        window
+    }
+
+    pub(crate) fn kinds(&self) -> &[Kind] {
+        &self.kinds[..self.sides]
+    }
+
+    pub(crate) fn ends(&self) -> &[u8] {
+        &self.ends[..self.bytes]
+    }
+}

@@ -1,0 +1,208 @@
+//! What the types let a caller say at the edges: empty slices, odd windows, numbers far outside the limits.
+
+mod fixture;
+
+use fixture::Fixture;
+use tussockbell::{open_tree, query, read_footer, report, tile_offsets, tile_sizes};
+use tussockbell::{Description, Extent, Kind, Range, Refused, Which};
+
+const WINDOW: [Range; 1] = [Range::Int32(12, 21)];
+
+fn refusal(number: u64, place: u64) -> Refused {
+    Refused { number, place, which: Which::First }
+}
+
+/// The sample fragment, whose size numbers are only in its description file.
+fn sample() -> Fixture {
+    Fixture::read("sample", vec![Kind::Int32], [1, 32, 1166, 300])
+}
+
+#[test]
+fn a_short_buffer_gets_the_first_tiles_and_the_full_number() {
+    let sample = sample();
+    for (room, expected) in [(0, vec![]), (1, vec![1]), (2, vec![1, 2]), (5, vec![1, 2, 77, 77, 77])] {
+        let mut out = vec![77; room];
+        let answer = query(&sample.description(), 3, &sample.tree, &WINDOW, &mut out).unwrap();
+        assert_eq!((answer.found, answer.looked), (2, 6));
+        assert_eq!(answer.tiles, &expected[..room.min(2)]);
+        assert_eq!(out, expected);
+    }
+}
+
+#[test]
+fn a_refused_query_leaves_the_buffer_alone() {
+    let sample = sample();
+    let tree = open_tree(&sample.description(), 1166, &sample.footer, &sample.tree).unwrap();
+    let mut out = [77; 4];
+    assert_eq!(tree.query(&[Range::Int32(1, 0)], &mut out), Err(refusal(Refused::REVERSED, 0)));
+    assert_eq!(query(&sample.description(), 4, &sample.tree, &WINDOW, &mut out), Err(refusal(Refused::BYTES, 80)));
+    assert_eq!(out, [77; 4]);
+    assert_eq!(tree.tiles_in(&[]), Err(refusal(Refused::WINDOW, 0)));
+}
+
+#[test]
+fn empty_slices_are_answered() {
+    let sample = sample();
+    let d = sample.description();
+    assert_eq!(read_footer(&d, 0, &[]).unwrap_err(), refusal(Refused::BYTES, 0));
+    assert_eq!(open_tree(&d, 0, &[], &[]).unwrap_err(), refusal(Refused::BYTES, 0));
+    let second = Refused { which: Which::Second, ..refusal(Refused::BYTES, 0) };
+    assert_eq!(open_tree(&d, 1166, &sample.footer, &[]).unwrap_err(), second);
+    assert_eq!(query(&d, 3, &[], &WINDOW, &mut []), Err(refusal(Refused::BYTES, 0)));
+    assert_eq!(query(&d, 3, &sample.tree, &[], &mut []), Err(refusal(Refused::WINDOW, 0)));
+    assert_eq!(query(&d, 3, &sample.tree, &WINDOW, &mut []).unwrap().found, 2);
+    assert_eq!(tile_offsets(1, 1, &[]).unwrap_err(), refusal(Refused::BYTES, 0));
+    assert_eq!(tile_sizes(1, &[]), Err(refusal(Refused::BYTES, 0)));
+    assert_eq!(report(&[], &[], &[], &[], &mut []), b"refused\t1\t0\n".len());
+}
+
+#[test]
+fn every_function_refuses_a_description_outside_the_limits() {
+    let sample = sample();
+    let good = sample.description();
+    let bad = [
+        Description { kinds: &[], ..good },
+        Description { kinds: &[Kind::Int32; 5], ..good },
+        Description { kinds: &[Kind::Float64; 300], ..good },
+        Description { fields: 0, ..good },
+        Description { fields: 65, ..good },
+        Description { fields: u64::MAX, ..good },
+        Description { capacity: 0, ..good },
+        Description { capacity: 1_000_000_001, ..good },
+        Description { capacity: u64::MAX, ..good },
+    ];
+    let (footer, tree) = (&sample.footer, &sample.tree);
+    for d in &bad {
+        let expected = refusal(Refused::DESCRIPTION, 0);
+        assert_eq!(read_footer(d, 1166, footer).unwrap_err(), expected);
+        assert_eq!(open_tree(d, 1166, footer, tree).unwrap_err(), expected);
+        // before the number of tiles and before the window
+        for (tiles, window) in [(3, &WINDOW[..]), (0, &[]), (u64::MAX, &[Range::Int64(0, 0); 9])] {
+            assert_eq!(query(d, tiles, tree, window, &mut []), Err(expected));
+        }
+    }
+}
+
+#[test]
+fn a_window_of_another_number_of_sides_is_refused_at_0() {
+    let mixed = Fixture::named("mixed");
+    let tree = mixed.open();
+    let domain = read_footer(&mixed.description(), mixed.file_size, &mixed.footer).unwrap().domain().to_vec();
+    assert!(tree.query(&domain, &mut []).is_ok());
+    for sides in [0, 1, 2, 3, 5, 6, 100] {
+        let window: Vec<Range> = domain.iter().copied().cycle().take(sides).collect();
+        assert_eq!(tree.query(&window, &mut []), Err(refusal(Refused::WINDOW, 0)));
+        let tiles = query(&mixed.description(), 0, &mixed.tree, &window, &mut []);
+        assert_eq!(tiles, Err(refusal(Refused::TILES, 0)));
+    }
+}
+
+#[test]
+fn a_bad_side_is_refused_at_its_dimension() {
+    let mixed = Fixture::named("mixed");
+    let tree = mixed.open();
+    let domain = read_footer(&mixed.description(), mixed.file_size, &mixed.footer).unwrap().domain().to_vec();
+    let (nan, quiet, signalling) = (f64::NAN, f32::NAN, f32::from_bits(0xff80_0001));
+    let bad = [
+        (0, Range::Int64(0, 0), Refused::WINDOW),
+        (0, Range::Int32(i32::MAX, i32::MIN), Refused::REVERSED),
+        (1, Range::Float32(0.0, 0.0), Refused::WINDOW),
+        (1, Range::Float64(nan, 0.0), Refused::NOT_A_NUMBER),
+        (1, Range::Float64(0.0, -nan), Refused::NOT_A_NUMBER),
+        (1, Range::Float64(f64::INFINITY, f64::NEG_INFINITY), Refused::REVERSED),
+        (2, Range::Int64(i64::MAX, i64::MIN), Refused::REVERSED),
+        (3, Range::Float32(quiet, quiet), Refused::NOT_A_NUMBER),
+        (3, Range::Float32(0.0, signalling), Refused::NOT_A_NUMBER),
+        (3, Range::Float32(1.0, 0.5), Refused::REVERSED),
+    ];
+    for (at, side, number) in bad {
+        let mut window = domain.clone();
+        window[at] = side;
+        assert_eq!(tree.query(&window, &mut []), Err(refusal(number, at as u64)), "{side:?}");
+    }
+}
+
+#[test]
+fn the_widest_window_finds_every_tile() {
+    let mixed = Fixture::named("mixed");
+    let widest = [
+        Range::Int32(i32::MIN, i32::MAX),
+        Range::Float64(f64::NEG_INFINITY, f64::INFINITY),
+        Range::Int64(i64::MIN, i64::MAX),
+        Range::Float32(f32::NEG_INFINITY, f32::INFINITY),
+    ];
+    let tree = mixed.open();
+    assert!(tree.tiles_in(&widest).unwrap().into_iter().eq(0..tree.tiles() as u32));
+    assert!(widest.iter().map(Range::kind).eq(mixed.kinds.iter().copied()));
+}
+
+#[test]
+fn both_zeros_are_one_end() {
+    let mut tree = [2u32, 1, 1, 0].map(u32::to_le_bytes).concat();
+    tree.extend([-0.0f32, 0.0].map(f32::to_le_bytes).concat());
+    let description = Description { kinds: &[Kind::Float32], fields: 1, capacity: 1 };
+    for (low, high) in [(0.0, 0.0), (-0.0, -0.0), (0.0, -0.0), (-0.0, 0.0)] {
+        let answer = query(&description, 1, &tree, &[Range::Float32(low, high)], &mut []).unwrap();
+        assert_eq!((answer.found, answer.looked), (1, 1));
+    }
+}
+
+#[test]
+fn numbers_go_up_to_the_largest() {
+    let sample = sample();
+    let d = sample.description();
+    let most = u64::MAX;
+    assert_eq!(read_footer(&d, most, &sample.footer).unwrap().tiles(), 3);
+    assert_eq!(read_footer(&d, most, &sample.footer).unwrap().cells(u32::MAX), 0);
+    assert_eq!(query(&d, most, &sample.tree, &WINDOW, &mut []), Err(refusal(Refused::TILES, 0)));
+    assert_eq!(tile_offsets(most, 300, &sample.offsets).unwrap_err(), refusal(Refused::TILES, 0));
+    assert_eq!(tile_sizes(most, &sample.offsets), Err(refusal(Refused::TILES, 0)));
+    let offsets = tile_offsets(3, most, &sample.offsets).unwrap();
+    assert_eq!(offsets.get(2), Some(Extent { offset: 250, length: most - 250 }));
+    assert_eq!(offsets.get(u32::MAX), None);
+    assert_eq!(offsets.iter().next_back(), offsets.get(2));
+    let sizes = |last: u64| [3, most - 1, 0, last].map(u64::to_le_bytes).concat();
+    assert_eq!(tile_sizes(3, &sizes(1)), Ok(most));
+    assert_eq!(tile_sizes(3, &sizes(2)), Err(refusal(Refused::SUM, 24)));
+}
+
+#[test]
+fn a_refusal_is_an_error_that_says_what_is_wrong() {
+    let sample = sample();
+    let window = [Range::Int32(2, 1)];
+    let error: Box<dyn std::error::Error> =
+        query(&sample.description(), 3, &sample.tree, &window, &mut []).unwrap_err().into();
+    assert_eq!(error.to_string(), "refused 9 at 0: minimum above maximum");
+    let refused = open_tree(&sample.description(), 1166, &sample.footer, &[0; 8]).unwrap_err();
+    assert_eq!(refused.to_string(), "refused 13 at 0 of the tree: fanout outside the limits");
+}
+
+#[test]
+fn what_debug_shows_is_short_and_named() {
+    let sample = sample();
+    let shown = format!("{:?}", read_footer(&sample.description(), 1166, &sample.footer).unwrap());
+    assert!(shown.contains("tiles: 3, last_cells: 5, timestamps: false, deletes: true, rtree: 7,"), "{shown}");
+    assert!(shown.contains("domain: [Int32(0, 24)]"), "{shown}");
+    let tree = open_tree(&sample.description(), 1166, &sample.footer, &sample.tree).unwrap();
+    assert_eq!(format!("{tree:?}"), "Tree { tiles: 3, fanout: 2, levels: 3, .. }");
+    let offsets = tile_offsets(3, 300, &sample.offsets).unwrap();
+    assert!(format!("{offsets:?}").starts_with("[Extent { offset: 0, length: 100 }, "));
+}
+
+#[test]
+fn every_fixture_is_answered_as_worked_out() {
+    let names =
+        ["float32", "float64", "full_rows", "mixed", "one_tile", "short_last_row", "three_short_rows", "wide_fanout"];
+    for name in names {
+        let fixture = Fixture::named(name);
+        let tree = fixture.open();
+        let offsets = tile_offsets(tree.tiles(), fixture.size, &fixture.offsets).unwrap();
+        let lengths: u64 = offsets.iter().map(|extent| extent.length).sum();
+        assert_eq!((offsets.len() as u64, lengths), (tree.tiles(), fixture.size), "{name}");
+        for asked in fixture.answers() {
+            let mut out = vec![0; tree.tiles() as usize];
+            let answer = tree.query(&asked.window, &mut out).unwrap();
+            assert_eq!((answer.tiles, answer.looked), (&asked.tiles[..], asked.looked), "{name} {:?}", asked.window);
+        }
+    }
+}

@@ -1,0 +1,94 @@
+//! What is written both here and elsewhere is the same: the header's numbers and texts, the README's example.
+
+#[allow(dead_code)]
+#[path = "../src/places.rs"]
+mod places;
+
+use std::collections::BTreeMap;
+use tussockbell::{Kind, Refused, Which};
+
+const HEADER: &str = include_str!("../../../include/tussockbell.h");
+
+/// The header's numbers by name, without what all names start with.
+fn defined() -> BTreeMap<&'static str, u64> {
+    let number = |line: &'static str| {
+        let (name, number) = line.strip_prefix("#define TUSSOCKBELL_")?.split_once(' ')?;
+        Some((name, number.parse().expect("a number")))
+    };
+    HEADER.lines().filter_map(number).collect()
+}
+
+/// The numbers of a part of the header, by name.
+fn part(holds: impl Fn(&str) -> bool) -> BTreeMap<&'static str, u64> {
+    defined().into_iter().filter(|(name, _)| holds(name)).collect()
+}
+
+fn is_kind(name: &str) -> bool {
+    name.starts_with("INT") || name.starts_with("FLOAT")
+}
+
+fn is_refusal(name: &str) -> bool {
+    name.starts_with("REFUSED_") || name == "NOT_REFUSED"
+}
+
+#[test]
+fn kinds_are_the_headers() {
+    let kinds = [
+        ("INT32", Kind::Int32 as u64),
+        ("INT64", Kind::Int64 as u64),
+        ("FLOAT32", Kind::Float32 as u64),
+        ("FLOAT64", Kind::Float64 as u64),
+    ];
+    assert_eq!(part(is_kind), BTreeMap::from(kinds));
+    for number in 0..=u8::MAX {
+        assert_eq!(Kind::try_from(number).ok().map(|kind| kind as u8), (number < 4).then_some(number));
+    }
+}
+
+#[test]
+fn places_are_the_headers() {
+    let mut places: BTreeMap<_, _> = places::ALL.iter().map(|(name, place)| (*name, *place as u64)).collect();
+    // a domain's kinds are the description's, and a list's length is the description's number of fields
+    places.extend([("DOMAIN_KIND", 0), ("FOOTER_LIST_PLACES", 64)]);
+    assert_eq!(part(|name| !is_kind(name) && !is_refusal(name)), places);
+}
+
+#[test]
+fn refusal_numbers_are_the_headers() {
+    macro_rules! named {
+        ($($name:ident)*) => { [$((concat!("REFUSED_", stringify!($name)), Refused::$name)),*] };
+    }
+    let named = named!(
+        DESCRIPTION BYTES VERSION NAME_SIZE FLAG DENSE NULL_DOMAIN NOT_A_NUMBER REVERSED TILES LAST_CELLS OFFSET FANOUT
+        LEVELS OUTSIDE_PARENT OUTSIDE_DOMAIN COUNT TILE_OFFSETS WINDOW SUM
+    );
+    let mut expected = BTreeMap::from(named);
+    expected.insert("NOT_REFUSED", 0);
+    assert_eq!(part(is_refusal), expected);
+}
+
+#[test]
+fn refusal_texts_are_the_headers() {
+    let numbers = defined();
+    let quoted = |line: &'static str| line.trim().strip_prefix("return \"").and_then(|rest| rest.strip_suffix("\";"));
+    let mut texts = BTreeMap::new();
+    for (case, text) in HEADER.lines().zip(HEADER.lines().skip(1)) {
+        let name = case.trim().strip_prefix("case TUSSOCKBELL_").and_then(|rest| rest.strip_suffix(':'));
+        match (name, quoted(text)) {
+            (Some(name), Some(text)) => _ = texts.insert(numbers[name], text),
+            (None, Some(text)) if case.trim() == "default:" => _ = texts.insert(21, text),
+            _ => (),
+        }
+    }
+    let own = |number| Refused { number, place: 0, which: Which::First }.text();
+    assert_eq!(texts, (0..=21).map(|number| (number, own(number))).collect());
+    assert_eq!(own(u64::MAX), texts[&21]);
+}
+
+#[test]
+fn the_readme_has_the_example() {
+    let readme = include_str!("../../../README.md");
+    let indented = |line: &str| if line.is_empty() { "\n".into() } else { format!("    {line}\n") };
+    let example: String = include_str!("../examples/touched.rs").lines().map(indented).collect();
+    assert!(readme.contains(&example), "README.md does not have examples/touched.rs as it is");
+}

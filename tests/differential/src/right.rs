@@ -1,0 +1,120 @@
+//! What the rules say of a case, in the places of the C functions' answers.
+
+use crate::cases::Case;
+use crate::rules::{self, Refused};
+
+fn refused(r: &Refused, rest: usize) -> Vec<u64> {
+    let mut answer = vec![r.number, r.place];
+    answer.resize(2 + rest, 0);
+    answer
+}
+
+/// What the rules say of a case: the answer's numbers, and the result buffer's last contents.
+pub fn right(case: &Case) -> (Vec<u64>, Vec<u32>) {
+    match case {
+        Case::Footer { d, file_size, footer, tile } => (footer_numbers(d, *file_size, footer, *tile), vec![]),
+        Case::Open { d, file_size, footer, tree } => (
+            match rules::open(d, *file_size, footer, tree) {
+                Ok((n, f, l)) => vec![0, 0, 0, n, f, l],
+                Err(r) => vec![r.number, r.place, r.which, 0, 0, 0],
+            },
+            vec![],
+        ),
+        Case::Query { d, tiles, tree, kinds, ends, room } => {
+            let mut out: Vec<u32> = (0..*room as u32).map(|i| 0xdead_0000 + i).collect();
+            match rules::query(d, *tiles, tree, kinds, ends) {
+                Ok((found, looked)) => {
+                    let fits = found.len().min(out.len());
+                    out[..fits].copy_from_slice(&found[..fits]);
+                    promised(case, &found, looked);
+                    (vec![0, 0, found.len() as u64, looked], out)
+                }
+                Err(r) => (refused(&r, 2), out),
+            }
+        }
+        Case::Offsets { tiles, size, list, tile } => {
+            let mut answer = match rules::offsets(*tiles, *size, list) {
+                Ok(_) => vec![0, 0, *tiles],
+                Err(r) => refused(&r, 1),
+            };
+            let (offset, extent) = rules::extent(*tiles, *size, list, *tile);
+            answer.extend([offset, extent]);
+            (answer, vec![])
+        }
+        Case::Report { description, footer, tree, offsets, room } => {
+            let text = rules::report(description, footer, tree, offsets);
+            let mut out = vec![0xa5u32; *room];
+            if text.len() <= *room {
+                for (place, byte) in out.iter_mut().zip(&text) {
+                    *place = *byte as u32;
+                }
+            }
+            (vec![text.len() as u64], out)
+        }
+        Case::Sizes { tiles, list } => (
+            match rules::sizes(*tiles, list) {
+                Ok(sum) => vec![0, 0, sum],
+                Err(r) => refused(&r, 1),
+            },
+            vec![],
+        ),
+    }
+}
+
+fn footer_numbers(d: &rules::Description, file_size: u64, data: &[u8], tile: u64) -> Vec<u64> {
+    let mut answer = vec![];
+    let no_side = [1u64, 0, 0];
+    match rules::footer(d, file_size, data) {
+        Ok(f) => {
+            answer.extend([0, 0]);
+            answer.extend(&f.numbers);
+            let mut at = f.domain_at;
+            for i in 0..4 {
+                match d.kinds.get(i) {
+                    Some(kind) => {
+                        let half = rules::width(*kind) / 2;
+                        answer.extend([*kind as u64, rules::number(data, at, half), rules::number(data, at + half, half)]);
+                        at += 2 * half;
+                    }
+                    None => answer.extend(no_side),
+                }
+            }
+            for list in &f.lists {
+                let mut places = list.clone();
+                places.resize(64, 0);
+                answer.extend(places);
+            }
+            answer.extend([f.name.0 as u64, f.name.1 as u64]);
+            answer.extend([rules::cells(&f, d.capacity, tile), (f.tiles - 1) * d.capacity + f.last_cells]);
+        }
+        Err(r) => {
+            answer.extend(refused(&r, 12));
+            for _ in 0..4 {
+                answer.extend(no_side);
+            }
+            answer.extend([0; 11 * 64]);
+            answer.extend([0, 0, 0, 0]);
+        }
+    }
+    answer
+}
+
+/// The rules' own promises of the walk: the bound for every tree, flat listing and flat count where every box is inside its parent.
+fn promised(case: &Case, found: &[u32], looked: u64) {
+    let Case::Query { d, tiles, tree, kinds, ends, .. } = case else { return };
+    let Ok(s) = rules::shape(d, *tiles, tree) else { panic!("a query that is not refused has a shape") };
+    let f = s.fanout;
+    assert!(looked * (f - 1) <= s.counts.len() as u64 * (f - 1) + (tiles - 1) * f, "the bound fails");
+    let b = d.box_bytes();
+    let contained = (1..s.counts.len()).all(|level| {
+        (0..s.counts[level]).all(|k| {
+            let parent = s.starts[level - 1] + (k / f) as usize * b;
+            let here = rules::stored_box(&d.kinds, tree, s.starts[level] + k as usize * b);
+            rules::inside(&here, &rules::stored_box(&d.kinds, tree, parent))
+        })
+    });
+    if contained {
+        let (listing, count) = rules::flat(d, &s, tree, &rules::window_of(kinds, ends));
+        assert!(found == listing && looked == count, "the walk is not flat");
+    }
+}
