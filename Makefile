@@ -2,6 +2,7 @@
 #   make report  run the report on a sample fragment, or on the files DESCRIPTION=.. FOOTER=.. TREE=.. OFFSETS=..
 #   make lib     build/libtussockbell.a and build/libtussockbell.so, for include/tussockbell.h
 #   make test    prove every crate, try the must-fail edits, run the programs and the other tests
+#   make bench   measure the library beside plain Rust and two R-tree libraries; writes docs/BENCHMARKS.md
 SHELL := /bin/bash
 
 SAMPLE := tests/fixtures/sample
@@ -10,7 +11,7 @@ FOOTER ?= $(SAMPLE)/footer
 TREE ?= $(SAMPLE)/tree
 OFFSETS ?= $(SAMPLE)/offsets
 
-.PHONY: report lib test
+.PHONY: report lib test bench
 
 # The program is proved before it is linked; what the prover says goes to build/report.log.
 report:
@@ -26,3 +27,6 @@ lib:
 
 test:
 	@tests/run
+
+bench:
+	@bench/run

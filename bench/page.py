@@ -1,0 +1,309 @@
+"""Writes docs/BENCHMARKS.md and docs/benchmarks.svg from what the harness printed.
+
+    page.py OUTPUT DIRECTORY
+"""
+
+import datetime
+import math
+import pathlib
+import subprocess
+import sys
+import textwrap
+
+PEERS = {"rust": "plain Rust", "boost": "Boost.Geometry", "libspatialindex": "libspatialindex"}
+COLOURS = {"ours": "#1d4ed8", "rust": "#d97706", "boost": "#047857", "libspatialindex": "#7c3aed"}
+KINDS = ["int32", "int64", "float32", "float64", "mix"]
+FANOUTS = ["2", "10", "16", "1024"]
+
+
+def read(text):
+    """The tables by name, each a list of rows by column, and the ratios by case. A table's first line is its header."""
+    headers, tables, ratios = {}, {}, {}
+    for line in text.splitlines():
+        name, *cells = line.split("\t")
+        if name == "ratio":
+            ratios[cells[0]] = float(cells[1])
+        elif name not in headers:
+            headers[name] = cells
+            tables[name] = []
+        else:
+            tables[name].append(dict(zip(headers[name], cells, strict=True)))
+    return tables, ratios
+
+
+def said(*command):
+    """The first line that a command prints, or nothing where there is no such command."""
+    try:
+        done = subprocess.run(command, capture_output=True, text=True, check=True)
+    except (OSError, subprocess.CalledProcessError):
+        return ""
+    return done.stdout.strip().split("\n")[0]
+
+
+def machine():
+    """What the numbers were measured on, as pairs."""
+    cpus = [line.split(":")[1].strip() for line in pathlib.Path("/proc/cpuinfo").read_text().splitlines() if line.startswith("model name")]
+    packages = [(name, said("dpkg-query", "-W", "-f=${Version}", name)) for name in ("libboost-dev", "libspatialindex-dev")]
+    system = [line.split("=")[1].strip('"') for line in pathlib.Path("/etc/os-release").read_text().splitlines() if line.startswith("PRETTY_NAME=")]
+    pairs = [
+        ("Date", datetime.date.today().isoformat()),
+        ("Processor", f"{cpus[0]}, {len(cpus)} logical" if cpus else ""),
+        ("System", system[0] if system else ""),
+        ("Rattle", said("rt", "version")),
+        ("Rust", said("rustc", "--version")),
+        ("C++", said("g++", "--version")),
+        *packages,
+    ]
+    return [(name, what) for name, what in pairs if what]
+
+
+def groups(ratios, pictured=False):
+    """Who is beside us and in which cases, with the ratios of those cases: all that the summary has, or those in the picture."""
+    cases = [(case.split("/"), ratio) for case, ratio in ratios.items()]
+
+    def of(peer, *parts):
+        return [ratio for case, ratio in cases if case[0] == peer and all(part in case for part in parts)]
+
+    by_fanout = {peer: [(peer, f"query, f = {f}", of(peer, "query", f"f={f}")) for f in FANOUTS] for peer in PEERS}
+    by_kind = [("rust", f"query, {kind}", of("rust", "query", kind)) for kind in KINDS]
+    made = by_fanout["rust"] + ([] if pictured else by_kind)
+    made += [("rust", "opening", of("rust", "open")), ("rust", "lists", of("rust", "offsets") + of("rust", "sizes"))]
+    for peer in ("boost", "libspatialindex"):
+        made += [(peer, f"query, {size} windows", of(peer, "query", size)) for size in ("small", "large")]
+        made += [] if pictured else by_fanout[peer]
+    return [group for group in made if group[2]]
+
+
+def mean(values):
+    return math.exp(sum(map(math.log, values)) / len(values))
+
+
+def short(value):
+    """As many places behind the point as are of use."""
+    value = float(value)
+    places = sum(value < least for least in (1, 10, 100))
+    return f"{value:,.{places}f}"
+
+
+def table(header, rows):
+    """Columns that hold numbers are set to the right."""
+    numbers = [all(row[i].replace(",", "").replace(".", "").isdigit() for row in rows) for i in range(len(header))]
+    lines = [header, ["--:" if right else ":--" for right in numbers], *rows]
+    return "\n".join("| " + " | ".join(line) + " |" for line in lines)
+
+
+def prose(text):
+    """Paragraphs, and points that begin with a dash, wrapped."""
+    wrapped = []
+    for part in textwrap.dedent(text).strip().split("\n\n"):
+        flat = " ".join(part.split())
+        indent = "  " if flat.startswith("- ") else ""
+        wrapped.append(textwrap.fill(flat, 130, subsequent_indent=indent, break_long_words=False, break_on_hyphens=False))
+    return "\n\n".join(wrapped).replace("\n\n- ", "\n- ")
+
+
+def query_table(tables, ratios):
+    header = ["Kind", "D", "f", "n", "Window", "Found", "Looked", "Ours", "a box", "Rust", "a box", "Boost", "M", "libsp.", "M"]
+    header += ["/ Rust", "/ Boost", "/ libsp."]
+    rows = []
+    for row in tables["query"]:
+        case = "query/{kind}/D={D}/f={f}/n={n}/{window}".format(**row)
+        cells = [row["kind"], row["D"], row["f"], row["n"], row["window"]]
+        for column in ("found", "looked", "ours ns", "ours ns/box", "rust ns", "rust ns/box"):
+            cells.append(short(row[column]))
+        for peer in ("boost", "libspatialindex"):
+            cells += [short(row[f"{peer} ns"]), row[f"{peer} capacity"]]
+        rows.append(cells + [short(ratios[f"{peer}/{case}"]) for peer in PEERS])
+    return table(header, rows)
+
+
+def pair_table(names, rows, per):
+    """Tables of us and plain Rust: the columns by which a row is known, both times, both for one `per`, and the ratio."""
+    header = [*names.values(), "Ours", f"a {per}", "Rust", f"a {per}", "/ Rust"]
+    times = ["ours ns", f"ours ns/{per}", "rust ns", f"rust ns/{per}"]
+    made = []
+    for row in rows:
+        known = [f"{float(row[name]):,.0f}" if name in ("bytes", "looked") else row[name] for name in names]
+        made.append([*known, *[short(row[name]) for name in times], short(float(row["ours ns"]) / float(row["rust ns"]))])
+    return table(header, made)
+
+
+def grown(rows, by, per):
+    """What one costs us while their number grows."""
+    numbers = [float(row[by]) for row in rows]
+    each = [float(row[f"ours ns/{per}"]) for row in rows]
+    times = max(numbers) / min(numbers)
+    return f"while the number grows by a factor of {times:.0f}, a {per} costs the library {short(min(each))} to {short(max(each))} ns"
+
+
+def summary(ratios):
+    rows = []
+    for peer, name, values in groups(ratios):
+        rows.append([PEERS[peer], name, str(len(values)), short(mean(values)), short(min(values)), short(max(values))])
+    return table(["Beside", "Cases", "Number", "Geometric mean", "Lowest", "Highest"], rows)
+
+
+def page(tables, ratios):
+    run = tables["run"][0]
+    tried = {peer: run[f"{peer} capacities"].replace(" ", ", ") for peer in ("boost", "libspatialindex")}
+    start = prose("""
+        `make bench` measures the compiled library, through its C functions, beside plain Rust and two R-tree libraries, and writes this
+        page. All numbers on it are from one run on one machine. Times are in nanoseconds. A ratio is our time divided by theirs: below 1
+        the library is faster.
+        """)
+    how = prose(f"""
+        - **Data.** Random hits in a cube of 1 to 4 dimensions, sorted along a Morton curve and cut into n tiles of 8 hits. Boxes have
+          coordinates on a grid of 2^20 steps a dimension, which each kind holds exactly; floats are in quarters. `mix` is float64, int32,
+          float32 and int64, as many of them as there are dimensions.
+
+        - **Windows.** {run["small windows"]} small ones, each 4 / n of the cube, so many that no branch predictor learns them by heart;
+          {run["large windows"]} large ones, each a tenth of the cube. A time is the mean over all windows of a size.
+
+        - **Before anything is timed,** the library, plain Rust and each R-tree, at each of its settings, are asked with each window, and
+          the tiles that they find are asserted to be the same; between the library and plain Rust the boxes looked at too, and what opening
+          and lists answer.
+
+        - **Timing.** {run["rounds"]} rounds. In each, every contender of a case runs over all windows for {run["least us"]} microseconds or
+          once, whichever is longer, one contender after the other, backward in every other round. A time is the median of the rounds. One thread.
+
+        - **Release builds** for x86-64 with no further instruction sets: `-C opt-level=3` and `-O3 -DNDEBUG`. Loops of plain Rust and of Boost
+          are aligned to 64 bytes, since plain Rust depends on where a loop happens to lie: unaligned, its pass over sizes took about 1.6 times
+          as long. The library is linked as it comes.
+
+        - **Plain Rust** (`bench/src/plain.rs`) makes the same checks and the same walk on the same bytes, from the same arguments, and
+          answers the same. It has no `unsafe`.
+
+        - **Boost.Geometry** (`bench/peers/boost.cpp`): `rtree` with `rstar`, packed by its constructor, coordinates of the kind's own type,
+          double for a mix, queried with `intersects`. **libspatialindex** (`bench/peers/spatialindex.cpp`): R*-tree, bulk loaded (STR), in
+          memory, double coordinates; one dimension gets a second one of 0, since the library wants two.
+
+        - **Their settings.** Node capacities {tried["boost"]} for Boost and {tried["libspatialindex"]} for libspatialindex are tried in
+          {run["trials"]} rounds for each kind, D, n and window size, and the best of these (M in the table) is then measured. Both lay their trees
+          out as they like, whatever f the fragment's tree has, so their times stand beside those of each f.
+
+        - **What differs.** The library and plain Rust read a fragment's own bytes, check their shape in every query and list tiles in
+          rising order. The R-tree libraries query structures that were built beforehand, take windows that were made beforehand, and list
+          tiles in any order; neither building nor sorting is in their times.
+        """)
+    growth = prose(f"""
+        Int32 and float64, D = 2, f = 16. First windows from 1 / 65,536 of the square to all of it, over 65,536 tiles:
+        {grown(tables["looks"], "looked", "box")}. Then opening trees of 1,024 to 65,536 tiles: {grown(tables["bytes"], "bytes", "byte")}.
+        """)
+    sections = [
+        "# Benchmarks",
+        start,
+        "![Left: nanoseconds a query against boxes looked at. Right: ratios of our times to theirs.](benchmarks.svg)",
+        "## Summary",
+        summary(ratios),
+        "## On what",
+        table(["", ""], [list(pair) for pair in machine()]),
+        "## What and how",
+        how,
+        "## Cost grows with boxes and bytes",
+        growth,
+        pair_table({"looked": "Looked"}, tables["looks"], "box"),
+        pair_table({"bytes": "Bytes"}, tables["bytes"], "byte"),
+        "## Window queries",
+        prose("Found and looked are means a query; times are a query's, and what that is for a box looked at. M is the node capacity."),
+        query_table(tables, ratios),
+        "## Opening",
+        prose("Footer and tree together, every box checked."),
+        pair_table({"kind": "Kind", "D": "D", "f": "f", "n": "n", "bytes": "Bytes"}, tables["open"], "byte"),
+        "## Lists",
+        prose("Checking tile offsets, and checking and adding up tile sizes."),
+        pair_table({"list": "List", "n": "n"}, tables["list"], "entry"),
+    ]
+    return "\n\n".join(sections) + "\n"
+
+
+class Axis:
+    """A logarithmic axis from one value to another, over a stretch of the picture."""
+
+    def __init__(self, low, high, start, end):
+        self.low, self.high, self.start, self.end = math.log10(low), math.log10(high), start, end
+
+    def __call__(self, value):
+        return self.start + (math.log10(value) - self.low) / (self.high - self.low) * (self.end - self.start)
+
+    def tens(self):
+        return [10.0**i for i in range(math.ceil(self.low - 1e-9), math.floor(self.high + 1e-9) + 1)]
+
+
+def text(x, y, what, anchor="middle", more=""):
+    return f'<text x="{x:.1f}" y="{y:.1f}" text-anchor="{anchor}" {more}>{what}</text>'
+
+
+def line(x1, y1, x2, y2, colour="#d1d5db", width=1.0):
+    return f'<line x1="{x1:.1f}" y1="{y1:.1f}" x2="{x2:.1f}" y2="{y2:.1f}" stroke="{colour}" stroke-width="{width}"/>'
+
+
+def dot(x, y, colour, radius=2.2, opacity=0.45):
+    return f'<circle cx="{x:.1f}" cy="{y:.1f}" r="{radius}" fill="{colour}" fill-opacity="{opacity}"/>'
+
+
+def decades(values):
+    """The powers of ten around all values."""
+    return 10.0 ** math.floor(math.log10(min(values))), 10.0 ** math.ceil(math.log10(max(values)))
+
+
+def count(value):
+    return f"{value:,.0f}" if value >= 1 else f"{value:g}"
+
+
+def costs(tables):
+    """The left panel: a query's time against the boxes that it looks at."""
+    rows, grown = tables["query"], tables["looks"]
+    both = [float(row[f"{who} ns"]) for who in ("ours", "rust") for row in rows + grown]
+    x = Axis(*decades([float(row["looked"]) for row in rows + grown]), 78, 396)
+    y = Axis(*decades(both), 400, 60)
+    made = [text(237, 28, "Time of a query, by boxes looked at", more='font-weight="bold"')]
+    for value in x.tens():
+        made += [line(x(value), 60, x(value), 400), text(x(value), 417, count(value))]
+    for value in y.tens():
+        made += [line(78, y(value), 396, y(value)), text(72, y(value) + 4, count(value), "end")]
+    made += [text(237, 440, "boxes looked at"), text(0, 0, "nanoseconds a query", more='transform="translate(16 230) rotate(-90)"')]
+    for who in ("rust", "ours"):
+        made += [dot(x(float(row["looked"])), y(float(row[f"{who} ns"])), COLOURS[who]) for row in rows]
+    for who in ("rust", "ours"):
+        points = " ".join(f"{x(float(row['looked'])):.1f},{y(float(row[f'{who} ns'])):.1f}" for row in grown)
+        made.append(f'<polyline points="{points}" fill="none" stroke="{COLOURS[who]}" stroke-width="1.8"/>')
+    for i, (who, name) in enumerate((("ours", "the library"), ("rust", "plain Rust"))):
+        made += [dot(92, 76 + 18 * i, COLOURS[who], 4, 1), text(102, 80 + 18 * i, name, "start")]
+    made += [line(86, 112, 98, 112, "#374151", 1.8), text(102, 116, "one tree, growing windows", "start")]
+    return made
+
+
+def strips(ratios):
+    """The right panel: the ratios, a strip for each group."""
+    shown = groups(ratios, pictured=True)
+    x = Axis(*decades([value for _, _, values in shown for value in values]), 615, 880)
+    made = [text(747, 28, "Our time / theirs", more='font-weight="bold"')]
+    for value in x.tens():
+        made += [line(x(value), 60, x(value), 400), text(x(value), 417, count(value))]
+    made += [line(x(1), 56, x(1), 400, "#111827", 1.5), text(x(1) - 6, 52, "faster", "end"), text(x(1) + 6, 52, "slower", "start")]
+    step = 340 / len(shown)
+    for i, (peer, name, values) in enumerate(shown):
+        at = 60 + step * (i + 0.5)
+        made.append(text(607, at + 4, f"{PEERS[peer].removesuffix('.Geometry')}, {name.removeprefix('query, ')}", "end"))
+        for j, value in enumerate(values):
+            made.append(dot(x(value), at + (j * 7 % 11 - 5) * step / 26, COLOURS[peer]))
+        made.append(line(x(mean(values)), at - step * 0.36, x(mean(values)), at + step * 0.36, "#111827", 2))
+    made.append(text(747, 440, "ratio; upright bars are geometric means"))
+    return made
+
+
+def picture(tables, ratios):
+    size = 'viewBox="0 0 900 456" width="900" height="456"'
+    start = f'<svg xmlns="http://www.w3.org/2000/svg" {size} font-family="sans-serif" font-size="12" fill="#111827">'
+    ground = '<rect width="900" height="456" fill="#ffffff"/>'
+    return "\n".join([start, ground, *costs(tables), *strips(ratios), "</svg>"]) + "\n"
+
+
+def main():
+    output, directory = map(pathlib.Path, sys.argv[1:])
+    tables, ratios = read(output.read_text())
+    (directory / "benchmarks.svg").write_text(picture(tables, ratios))
+    (directory / "BENCHMARKS.md").write_text(page(tables, ratios))
+
+
+main()

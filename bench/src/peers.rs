@@ -1,0 +1,127 @@
+//! The library through its C functions, and the R-tree libraries through theirs.
+
+use crate::plain::Kind;
+use std::ffi::c_void;
+
+#[link(name = "tussockbell", kind = "static")]
+unsafe extern "C" {
+    fn tussockbell_open(
+        kinds: *const u8, kinds_length: usize, fields: u64, capacity: u64, file_size: u64, footer: *const u8, footer_length: usize,
+        tree: *const u8, tree_length: usize, answer: *mut u64,
+    );
+    fn tussockbell_query(
+        kinds: *const u8, kinds_length: usize, fields: u64, capacity: u64, tiles: u64, tree: *const u8, tree_length: usize,
+        window_kinds: *const u8, window_kinds_length: usize, window_ends: *const u8, window_ends_length: usize, out: *mut u32,
+        out_length: usize, answer: *mut u64,
+    );
+    fn tussockbell_offsets(tiles: u64, size: u64, list: *const u8, list_length: usize, answer: *mut u64);
+    fn tussockbell_sizes(tiles: u64, list: *const u8, list_length: usize, answer: *mut u64);
+}
+
+type Make = unsafe extern "C" fn(usize, usize, *const f64, usize, *const f64, usize) -> *mut c_void;
+type Query = unsafe extern "C" fn(*const c_void, usize, *mut u32) -> usize;
+type Free = unsafe extern "C" fn(*mut c_void);
+
+#[link(name = "peers", kind = "static")]
+#[link(name = "spatialindex")]
+#[link(name = "stdc++")]
+unsafe extern "C" {
+    fn boost_make_int32(d: usize, capacity: usize, ends: *const f64, boxes: usize, window_ends: *const f64, windows: usize) -> *mut c_void;
+    fn boost_make_int64(d: usize, capacity: usize, ends: *const f64, boxes: usize, window_ends: *const f64, windows: usize) -> *mut c_void;
+    fn boost_make_float32(d: usize, capacity: usize, ends: *const f64, boxes: usize, window_ends: *const f64, windows: usize) -> *mut c_void;
+    fn boost_make_float64(d: usize, capacity: usize, ends: *const f64, boxes: usize, window_ends: *const f64, windows: usize) -> *mut c_void;
+    fn boost_query(tree: *const c_void, window: usize, out: *mut u32) -> usize;
+    fn boost_free(tree: *mut c_void);
+    fn spatialindex_make(d: usize, capacity: usize, ends: *const f64, boxes: usize, window_ends: *const f64, windows: usize) -> *mut c_void;
+    fn spatialindex_query(tree: *const c_void, window: usize, out: *mut u32) -> usize;
+    fn spatialindex_free(tree: *mut c_void);
+}
+
+/// Number, place, which, tiles, fanout, levels.
+pub fn open(kinds: &[u8], fields: u64, capacity: u64, file_size: u64, footer: &[u8], tree: &[u8]) -> [u64; 6] {
+    let mut answer = [0; 6];
+    unsafe {
+        tussockbell_open(
+            kinds.as_ptr(), kinds.len(), fields, capacity, file_size, footer.as_ptr(), footer.len(), tree.as_ptr(), tree.len(),
+            answer.as_mut_ptr(),
+        )
+    }
+    answer
+}
+
+/// Number, place, found, looked.
+pub fn query(
+    kinds: &[u8], fields: u64, capacity: u64, tiles: u64, tree: &[u8], window_kinds: &[u8], window_ends: &[u8], out: &mut [u32],
+) -> [u64; 4] {
+    let mut answer = [0; 4];
+    unsafe {
+        tussockbell_query(
+            kinds.as_ptr(), kinds.len(), fields, capacity, tiles, tree.as_ptr(), tree.len(), window_kinds.as_ptr(), window_kinds.len(),
+            window_ends.as_ptr(), window_ends.len(), out.as_mut_ptr(), out.len(), answer.as_mut_ptr(),
+        )
+    }
+    answer
+}
+
+/// Number, place, tiles.
+pub fn offsets(tiles: u64, size: u64, list: &[u8]) -> [u64; 3] {
+    let mut answer = [0; 3];
+    unsafe { tussockbell_offsets(tiles, size, list.as_ptr(), list.len(), answer.as_mut_ptr()) }
+    answer
+}
+
+/// Number, place, sum.
+pub fn sizes(tiles: u64, list: &[u8]) -> [u64; 3] {
+    let mut answer = [0; 3];
+    unsafe { tussockbell_sizes(tiles, list.as_ptr(), list.len(), answer.as_mut_ptr()) }
+    answer
+}
+
+/// The node capacities that are tried.
+pub const BOOST: [usize; 4] = [4, 8, 16, 32];
+pub const SPATIALINDEX: [usize; 3] = [8, 16, 32];
+
+/// An R-tree of one of the libraries, with its windows.
+pub struct Peer {
+    pub name: &'static str,
+    pub capacity: usize,
+    tree: *mut c_void,
+    query: Query,
+    free: Free,
+}
+
+impl Peer {
+    /// Each library at each of its node capacities. Boost has the kind's own type, a mix has double.
+    pub fn all(kinds: &[Kind], boxes: &[f64], windows: &[f64]) -> Vec<Peer> {
+        let d = kinds.len();
+        let boost: Make = if kinds.iter().any(|kind| *kind != kinds[0]) {
+            boost_make_float64
+        } else {
+            match kinds[0] {
+                Kind::Int32 => boost_make_int32,
+                Kind::Int64 => boost_make_int64,
+                Kind::Float32 => boost_make_float32,
+                Kind::Float64 => boost_make_float64,
+            }
+        };
+        let one = |name, capacity, make: Make, query: Query, free: Free| {
+            let tree = unsafe { make(d, capacity, boxes.as_ptr(), boxes.len() / (2 * d), windows.as_ptr(), windows.len() / (2 * d)) };
+            assert!(!tree.is_null());
+            Peer { name, capacity, tree, query, free }
+        };
+        let boosts = BOOST.map(|capacity| one("boost", capacity, boost, boost_query, boost_free));
+        let others = SPATIALINDEX.map(|capacity| one("libspatialindex", capacity, spatialindex_make, spatialindex_query, spatialindex_free));
+        boosts.into_iter().chain(others).collect()
+    }
+
+    /// Writes the tiles found, in the library's own order; there is room for all.
+    pub fn query(&self, window: usize, out: &mut [u32]) -> usize {
+        unsafe { (self.query)(self.tree, window, out.as_mut_ptr()) }
+    }
+}
+
+impl Drop for Peer {
+    fn drop(&mut self) {
+        unsafe { (self.free)(self.tree) }
+    }
+}

@@ -1,0 +1,441 @@
+//! The library's operations as one would write them in plain Rust, to compare speeds with: the same input, the same checks, the same walk, no
+//! proofs. What goes in and comes out is what the C functions take and answer, so that one could stand in for the other.
+
+#[derive(Clone, Copy, PartialEq)]
+pub enum Kind {
+    Int32 = 0,
+    Int64 = 1,
+    Float32 = 2,
+    Float64 = 3,
+}
+
+#[derive(Debug, PartialEq)]
+pub struct Refused {
+    pub number: u64,
+    pub place: u64,
+    pub which: u64,
+}
+
+fn refuse<T>(number: u64, place: usize) -> Result<T, Refused> {
+    Err(Refused { number, place: place as u64, which: 0 })
+}
+
+fn u32_at(bytes: &[u8], at: usize) -> u32 {
+    u32::from_le_bytes(bytes[at..at + 4].try_into().unwrap())
+}
+
+fn u64_at(bytes: &[u8], at: usize) -> u64 {
+    u64::from_le_bytes(bytes[at..at + 8].try_into().unwrap())
+}
+
+/// A minimum and a maximum.
+#[derive(Clone, Copy)]
+struct Ends<T>(T, T);
+
+impl<T: PartialOrd> Ends<T> {
+    /// 8, 9 or nothing.
+    fn fault(&self) -> Option<u64> {
+        if self.0 <= self.1 {
+            None
+        } else if self.0 > self.1 {
+            Some(9)
+        } else {
+            Some(8)
+        }
+    }
+
+    fn inside(&self, outer: &Ends<T>) -> bool {
+        outer.0 <= self.0 && self.1 <= outer.1
+    }
+
+    fn meets(&self, other: &Ends<T>) -> bool {
+        self.0 <= other.1 && other.0 <= self.1
+    }
+}
+
+/// A number of one of the kinds, in bytes.
+trait Number: PartialOrd + Copy {
+    fn ends(bytes: &[u8]) -> Ends<Self>;
+}
+
+macro_rules! number {
+    ($($t:ty),*) => {
+        $(impl Number for $t {
+            fn ends(bytes: &[u8]) -> Ends<$t> {
+                let (low, high) = bytes[..2 * size_of::<$t>()].split_at(size_of::<$t>());
+                Ends(<$t>::from_le_bytes(low.try_into().unwrap()), <$t>::from_le_bytes(high.try_into().unwrap()))
+            }
+        })*
+    };
+}
+
+number!(i32, i64, f32, f64);
+
+impl Kind {
+    fn of(number: u8) -> Option<Kind> {
+        [Kind::Int32, Kind::Int64, Kind::Float32, Kind::Float64].get(number as usize).copied()
+    }
+
+    /// The fault of a stored range, and whether it lies inside another.
+    fn judge(self, inner: &[u8], outer: &[u8]) -> (Option<u64>, bool) {
+        fn one<T: Number>(inner: &[u8], outer: &[u8]) -> (Option<u64>, bool) {
+            let range = T::ends(inner);
+            (range.fault(), range.inside(&T::ends(outer)))
+        }
+        match self {
+            Kind::Int32 => one::<i32>(inner, outer),
+            Kind::Int64 => one::<i64>(inner, outer),
+            Kind::Float32 => one::<f32>(inner, outer),
+            Kind::Float64 => one::<f64>(inner, outer),
+        }
+    }
+
+    fn range_bytes(self) -> usize {
+        match self {
+            Kind::Int32 | Kind::Float32 => 8,
+            Kind::Int64 | Kind::Float64 => 16,
+        }
+    }
+}
+
+#[derive(Clone, Copy)]
+enum Range {
+    Int32(Ends<i32>),
+    Int64(Ends<i64>),
+    Float32(Ends<f32>),
+    Float64(Ends<f64>),
+}
+
+impl Range {
+    const NONE: Range = Range::Int64(Ends(0, 0));
+
+    fn read(kind: Kind, bytes: &[u8]) -> Range {
+        match kind {
+            Kind::Int32 => Range::Int32(Number::ends(bytes)),
+            Kind::Int64 => Range::Int64(Number::ends(bytes)),
+            Kind::Float32 => Range::Float32(Number::ends(bytes)),
+            Kind::Float64 => Range::Float64(Number::ends(bytes)),
+        }
+    }
+
+    fn bytes(&self) -> usize {
+        match self {
+            Range::Int32(_) | Range::Float32(_) => 8,
+            Range::Int64(_) | Range::Float64(_) => 16,
+        }
+    }
+
+    fn fault(&self) -> Option<u64> {
+        match self {
+            Range::Int32(ends) => ends.fault(),
+            Range::Int64(ends) => ends.fault(),
+            Range::Float32(ends) => ends.fault(),
+            Range::Float64(ends) => ends.fault(),
+        }
+    }
+
+    /// Whether the range that is stored in the bytes, of the same kind, meets this one.
+    fn met_by(&self, bytes: &[u8]) -> bool {
+        match self {
+            Range::Int32(ends) => Number::ends(bytes).meets(ends),
+            Range::Int64(ends) => Number::ends(bytes).meets(ends),
+            Range::Float32(ends) => Number::ends(bytes).meets(ends),
+            Range::Float64(ends) => Number::ends(bytes).meets(ends),
+        }
+    }
+}
+
+/// A description that is inside the limits.
+struct Description {
+    kinds: [Kind; 4],
+    dimensions: usize,
+    fields: u64,
+    capacity: u64,
+}
+
+impl Description {
+    fn new(numbers: &[u8], fields: u64, capacity: u64) -> Result<Description, Refused> {
+        if !(1..=4).contains(&numbers.len()) || !(1..=64).contains(&fields) || !(1..=1_000_000_000).contains(&capacity) {
+            return refuse(1, 0);
+        }
+        let mut d = Description { kinds: [Kind::Int64; 4], dimensions: numbers.len(), fields, capacity };
+        for (kind, number) in d.kinds.iter_mut().zip(numbers) {
+            match Kind::of(*number) {
+                Some(known) => *kind = known,
+                None => return refuse(1, 0),
+            }
+        }
+        Ok(d)
+    }
+
+    fn kinds(&self) -> &[Kind] {
+        &self.kinds[..self.dimensions]
+    }
+
+    fn box_bytes(&self) -> usize {
+        self.kinds().iter().map(|kind| kind.range_bytes()).sum()
+    }
+
+    /// A window of these kinds. Ranges whose bytes are not all there count as 0 to 0.
+    fn window(&self, numbers: &[u8], ends: &[u8]) -> Result<[Range; 4], Refused> {
+        if numbers.len() != self.dimensions {
+            return refuse(19, 0);
+        }
+        let mut window = [Range::NONE; 4];
+        let mut at = 0;
+        for (i, (kind, number)) in self.kinds().iter().zip(numbers).enumerate() {
+            if Kind::of(*number) != Some(*kind) {
+                return refuse(19, i);
+            }
+            let to = at + kind.range_bytes();
+            window[i] = Range::read(*kind, ends.get(at..to).unwrap_or(&[0; 16]));
+            if let Some(number) = window[i].fault() {
+                return refuse(number, i);
+            }
+            at = to;
+        }
+        Ok(window)
+    }
+}
+
+/// Box counts and places of the levels, root first.
+struct Shape {
+    fanout: usize,
+    levels: usize,
+    counts: [usize; 17],
+    starts: [usize; 17],
+}
+
+fn shape(tiles: usize, width: usize, body: &[u8]) -> Result<Shape, Refused> {
+    if body.len() < 8 {
+        return refuse(2, body.len());
+    }
+    let fanout = u32_at(body, 0) as usize;
+    if !(2..=1024).contains(&fanout) {
+        return refuse(13, 0);
+    }
+    let mut shape = Shape { fanout, levels: 1, counts: [0; 17], starts: [0; 17] };
+    let mut count = tiles;
+    shape.counts[0] = count;
+    while count > 1 {
+        count = count.div_ceil(fanout);
+        shape.counts[shape.levels] = count;
+        shape.levels += 1;
+    }
+    shape.counts[..shape.levels].reverse();
+    if u32_at(body, 4) as usize != shape.levels {
+        return refuse(14, 4);
+    }
+    let boxes: usize = shape.counts.iter().sum();
+    if body.len() != 8 + 8 * shape.levels + width * boxes {
+        return refuse(2, body.len());
+    }
+    let mut at = 8;
+    for level in 0..shape.levels {
+        if u64_at(body, at) != shape.counts[level] as u64 {
+            return refuse(14, at);
+        }
+        shape.starts[level] = at + 8;
+        at += 8 + width * shape.counts[level];
+    }
+    Ok(shape)
+}
+
+fn meets(bytes: &[u8], window: &[Range]) -> bool {
+    let mut at = 0;
+    for range in window {
+        if !range.met_by(&bytes[at..]) {
+            return false;
+        }
+        at += range.bytes();
+    }
+    true
+}
+
+struct Walk<'a> {
+    body: &'a [u8],
+    window: &'a [Range],
+    width: usize,
+    shape: &'a Shape,
+    out: &'a mut [u32],
+    found: usize,
+    looked: usize,
+}
+
+impl Walk<'_> {
+    fn row(&mut self, level: usize, first: usize, len: usize) {
+        let from = self.shape.starts[level] + first * self.width;
+        let row = &self.body[from..from + len * self.width];
+        self.looked += len;
+        for (k, bytes) in (first..).zip(row.chunks_exact(self.width)) {
+            if meets(bytes, self.window) {
+                if level + 1 == self.shape.levels {
+                    if let Some(place) = self.out.get_mut(self.found) {
+                        *place = k as u32;
+                    }
+                    self.found += 1;
+                } else {
+                    let first = k * self.shape.fanout;
+                    self.row(level + 1, first, self.shape.fanout.min(self.shape.counts[level + 1] - first));
+                }
+            }
+        }
+    }
+}
+
+/// The number found and the number looked at.
+#[allow(clippy::too_many_arguments)]
+#[inline(never)]
+pub fn query(
+    kinds: &[u8], fields: u64, capacity: u64, tiles: u64, tree: &[u8], window_kinds: &[u8], window_ends: &[u8], out: &mut [u32],
+) -> Result<(u64, u64), Refused> {
+    let d = Description::new(kinds, fields, capacity)?;
+    if !(1..=65_536).contains(&tiles) {
+        return refuse(10, 0);
+    }
+    let window = d.window(window_kinds, window_ends)?;
+    let width = d.box_bytes();
+    let shape = shape(tiles as usize, width, tree)?;
+    let mut walk = Walk { body: tree, window: &window[..d.dimensions], width, shape: &shape, out, found: 0, looked: 0 };
+    walk.row(0, 0, 1);
+    Ok((walk.found as u64, walk.looked as u64))
+}
+
+/// The number of tiles of a footer, and where its domain starts.
+fn footer(d: &Description, file_size: u64, bytes: &[u8]) -> Result<(u64, usize), Refused> {
+    if bytes.len() < 12 {
+        return refuse(2, bytes.len());
+    }
+    if !(16..=21).contains(&u32_at(bytes, 0)) {
+        return refuse(3, 0);
+    }
+    let name = u64_at(bytes, 4);
+    if !(1..=255).contains(&name) {
+        return refuse(4, 4);
+    }
+    let fields = d.fields as usize;
+    let total = 64 + name as usize + d.box_bytes() + 88 * fields;
+    if bytes.len() != total || file_size < total as u64 {
+        return refuse(2, bytes.len());
+    }
+    let flag = |at: usize, set: Option<u64>| match (bytes[at], set) {
+        (0, _) | (1, None) => Ok(()),
+        (1, Some(number)) => refuse(number, at),
+        _ => refuse(5, at),
+    };
+    let mut at = 12 + name as usize;
+    flag(at, Some(6))?;
+    flag(at + 1, Some(7))?;
+    at += 2;
+    let domain = at;
+    for kind in d.kinds() {
+        if let Some(number) = Range::read(*kind, &bytes[at..]).fault() {
+            return refuse(number, at);
+        }
+        at += kind.range_bytes();
+    }
+    let tiles = u64_at(bytes, at);
+    if !(1..=65_536).contains(&tiles) {
+        return refuse(10, at);
+    }
+    if !(1..=d.capacity).contains(&u64_at(bytes, at + 8)) {
+        return refuse(11, at + 8);
+    }
+    flag(at + 16, None)?;
+    flag(at + 17, None)?;
+    at += 18 + 24 * fields;
+    for _ in 0..8 * fields + 3 {
+        if u64_at(bytes, at) >= file_size - total as u64 {
+            return refuse(12, at);
+        }
+        at += 8;
+    }
+    if u64_at(bytes, at) != total as u64 - 8 {
+        return refuse(2, bytes.len());
+    }
+    Ok((tiles, domain))
+}
+
+/// Tiles, fanout and levels.
+#[inline(never)]
+pub fn open(kinds: &[u8], fields: u64, capacity: u64, file_size: u64, footer_bytes: &[u8], tree: &[u8]) -> Result<(u64, u64, u64), Refused> {
+    let d = Description::new(kinds, fields, capacity)?;
+    let (tiles, domain) = footer(&d, file_size, footer_bytes)?;
+    boxes(&d, tiles as usize, &footer_bytes[domain..], tree).map_err(|refused| Refused { which: 1, ..refused })
+}
+
+/// Every range of a stored box is sound, and the box lies inside another one, or the number for that is given.
+fn check_box(kinds: &[Kind], bytes: &[u8], at: usize, outer: &[u8], number: u64) -> Result<(), Refused> {
+    let mut all_inside = true;
+    let mut place = 0;
+    for kind in kinds {
+        let (fault, inside) = kind.judge(&bytes[place..], &outer[place..]);
+        if let Some(number) = fault {
+            return refuse(number, at + place);
+        }
+        all_inside &= inside;
+        place += kind.range_bytes();
+    }
+    if all_inside { Ok(()) } else { refuse(number, at) }
+}
+
+fn boxes(d: &Description, tiles: usize, domain: &[u8], body: &[u8]) -> Result<(u64, u64, u64), Refused> {
+    let width = d.box_bytes();
+    let shape = shape(tiles, width, body)?;
+    let level = |i: usize| &body[shape.starts[i]..shape.starts[i] + shape.counts[i] * width];
+    check_box(d.kinds(), level(0), shape.starts[0], domain, 16)?;
+    for i in 1..shape.levels {
+        let mut at = shape.starts[i];
+        for (parent, row) in level(i - 1).chunks_exact(width).zip(level(i).chunks(shape.fanout * width)) {
+            for child in row.chunks_exact(width) {
+                check_box(d.kinds(), child, at, parent, 15)?;
+                at += width;
+            }
+        }
+    }
+    Ok((tiles as u64, shape.fanout as u64, shape.levels as u64))
+}
+
+fn entries(tiles: u64, list: &[u8]) -> Result<impl Iterator<Item = (usize, u64)> + '_, Refused> {
+    if !(1..=65_536).contains(&tiles) {
+        return refuse(10, 0);
+    }
+    if list.len() < 8 {
+        return refuse(2, list.len());
+    }
+    if u64_at(list, 0) != tiles {
+        return refuse(17, 0);
+    }
+    if list.len() as u64 != 8 + 8 * tiles {
+        return refuse(2, list.len());
+    }
+    Ok(list[8..].chunks_exact(8).enumerate().map(|(i, bytes)| (8 + 8 * i, u64::from_le_bytes(bytes.try_into().unwrap()))))
+}
+
+#[inline(never)]
+pub fn offsets(tiles: u64, size: u64, list: &[u8]) -> Result<u64, Refused> {
+    let mut entries = entries(tiles, list)?;
+    let mut before = 0;
+    if entries.next().is_some_and(|(_, first)| first != 0 || first >= size) {
+        return refuse(18, 8);
+    }
+    for (at, offset) in entries {
+        if offset <= before || offset >= size {
+            return refuse(18, at);
+        }
+        before = offset;
+    }
+    Ok(tiles)
+}
+
+#[inline(never)]
+pub fn sizes(tiles: u64, list: &[u8]) -> Result<u64, Refused> {
+    let mut sum = 0u64;
+    for (at, size) in entries(tiles, list)? {
+        match sum.checked_add(size) {
+            Some(more) => sum = more,
+            None => return refuse(20, at),
+        }
+    }
+    Ok(sum)
+}
