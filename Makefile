@@ -19,11 +19,16 @@ report:
 	@rt check report > build/report.log 2>&1 || { cat build/report.log; exit 1; }
 	@target/bin/report '$(DESCRIPTION)' '$(FOOTER)' '$(TREE)' '$(OFFSETS)'
 
-lib:
-	@rt staticlib c_api
+# Made anew where a file that the proofs or the code rest on is newer; what the prover says goes to build/lib.log.
+lib: build/libtussockbell.so
+
+build/libtussockbell.a: crates.txt $(shell find crates -name '*.rt' -o -name '*.antt')
 	@mkdir -p build
-	@cp target/staticlib/libc_api.a build/libtussockbell.a
-	@gcc -shared -o build/libtussockbell.so -Wl,--whole-archive build/libtussockbell.a -Wl,--no-whole-archive
+	@rt staticlib c_api > build/lib.log 2>&1 || { cat build/lib.log; exit 1; }
+	@cp target/staticlib/libc_api.a $@
+
+build/libtussockbell.so: build/libtussockbell.a
+	@gcc -shared -o $@ -Wl,--whole-archive $< -Wl,--no-whole-archive
 
 test:
 	@tests/run

@@ -166,9 +166,8 @@ def page(tables, ratios):
         - **Timing.** {run["rounds"]} rounds. In each, every contender of a case runs over all windows for {run["least us"]} microseconds or
           once, whichever is longer, one contender after the other, backward in every other round. A time is the median of the rounds. One thread.
 
-        - **Release builds** for x86-64 with no further instruction sets: `-C opt-level=3` and `-O3 -DNDEBUG`. Loops of plain Rust and of Boost
-          are aligned to 64 bytes, since plain Rust depends on where a loop happens to lie: unaligned, its pass over sizes took about 1.6 times
-          as long. The library is linked as it comes.
+        - **Release builds** for x86-64 with no further instruction sets, everything else as the compilers have it: `-C opt-level=3` and
+          `-O3 -DNDEBUG`. The library is linked as `make lib` makes it.
 
         - **Plain Rust** (`bench/src/plain.rs`) makes the same checks and the same walk on the same bytes, from the same arguments, and
           answers the same. It has no `unsafe`.

@@ -8,8 +8,8 @@
  * `capacity`, the cells of a full tile, 1 to 1000000000. A number that is no kind, and a number of kinds that is not 1 to 4, is refused
  * like any other number outside the limits, with TUSSOCKBELL_REFUSED_DESCRIPTION at place 0.
  *
- * An answer's first two places are the refusal's number, 0 for none, and its place in the bytes that were lent. After a refusal every
- * other number is 0 unless a comment says otherwise. */
+ * An answer's first two places are the refusal's number, 0 for none, and its place in the bytes that were lent; where the refusal is about a
+ * window's side, the place is its dimension, from 0. After a refusal every other number is 0 unless a comment says otherwise. */
 #ifndef TUSSOCKBELL_H
 #define TUSSOCKBELL_H
 
@@ -141,7 +141,7 @@ static inline const char *tussockbell_refusal_text(uint64_t number)
 #define TUSSOCKBELL_NAME_LENGTH 1
 #define TUSSOCKBELL_NAME_PLACES 2
 
-/* tussockbell_open. WHICH: 0 where the place counts in the footer, 1 where it counts in the tree. */
+/* tussockbell_open. WHICH: 0 where the place counts in the footer or in neither, 1 where it counts in the tree. */
 #define TUSSOCKBELL_OPEN_WHICH 2
 #define TUSSOCKBELL_OPEN_TILES 3
 #define TUSSOCKBELL_OPEN_FANOUT 4
@@ -172,7 +172,8 @@ static inline const char *tussockbell_refusal_text(uint64_t number)
 void tussockbell_footer(const uint8_t *kinds, size_t kinds_length, uint64_t fields, uint64_t capacity, uint64_t file_size,
                         const uint8_t *footer, size_t footer_length, uint64_t *answer /* [TUSSOCKBELL_FOOTER_PLACES] */);
 
-/* Where the schema name starts in the lent footer, and its bytes; 0 and 0 where the footer is refused. */
+/* Where the schema name starts in the lent footer, and its bytes; 0 and 0 where the footer is refused. This function and the next two check the
+ * whole footer on every call. */
 void tussockbell_schema_name(const uint8_t *kinds, size_t kinds_length, uint64_t fields, uint64_t capacity, uint64_t file_size,
                              const uint8_t *footer, size_t footer_length, uint64_t *answer /* [TUSSOCKBELL_NAME_PLACES] */);
 
