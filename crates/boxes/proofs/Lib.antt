@@ -8,6 +8,7 @@ pub mod Comparing
 pub mod Reading
 pub mod Walking
 pub mod Boxes
+pub mod Within
 pub mod Windows
 pub mod Moving
 pub mod Bytes

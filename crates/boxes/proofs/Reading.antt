@@ -57,7 +57,7 @@ module _ (k : Kind) (a b a′ b′ : ℕ) (low : Alike k a a′) (high : Alike k
       (rw (alike-right k b b′ (e .low) high, alike-left k a a′ (e .high) low))
 
 -- ---- a pattern that was read
-abbrev again : Kind → ℕ → ℕ
+abbrev pub again : Kind → ℕ → ℕ
 again Int32 p = ofZ w32 (toZ w32 p)
 again Int64 p = ofZ w64 (toZ w64 p)
 again Float32 p = toBits binary32 (ofBits binary32 p)
@@ -87,6 +87,14 @@ alike-again Float64 p h = float-again binary64 p (record { fits = h })
 
 -- ---- a range that was read
 module _ (s : List ℕ) (byte : (i : ℕ) → getD s i 0 < 256) (k : Kind) (at : ℕ) where
+  pub low-again : Alike k (again k (endsAt k s at .low)) (endsAt k s at .low)
+  unfolding endsAt
+  low-again = alike-again k (endsAt k s at .low) (first-lt s (λ i. record { fits = byte i }) at (endBytes k))
+
+  pub high-again : Alike k (again k (endsAt k s at .high)) (endsAt k s at .high)
+  unfolding endsAt
+  high-again = alike-again k (endsAt k s at .high) (second-lt s (λ i. record { fits = byte i }) at (endBytes k))
+
   as-read : {A : Type 0} (f : Ends → A)
       → ((a b a′ b′ : ℕ) → Alike k a a′ → Alike k b b′ → f (ends k a b) ≡ f (ends k a′ b′))
       → f (endsOf (rangeAt k s at)) ≡ f (endsAt k s at)
@@ -94,10 +102,7 @@ module _ (s : List ℕ) (byte : (i : ℕ) → getD s i 0 < 256) (k : Kind) (at :
   as-read f alike =
       let low = endsAt k s at .low in
       let high = endsAt k s at .high in
-      ap f (ends-again k low high)
-      ∙ alike (again k low) (again k high) low high
-      (alike-again k low (first-lt s (λ i. record { fits = byte i }) at (endBytes k)))
-      (alike-again k high (second-lt s (λ i. record { fits = byte i }) at (endBytes k)))
+      ap f (ends-again k low high) ∙ alike (again k low) (again k high) low high low-again high-again
 
   pub read-has-nan : hasNan (endsOf (rangeAt k s at)) ≡ hasNan (endsAt k s at)
   read-has-nan = as-read hasNan (alike-has-nan k)

@@ -79,6 +79,10 @@ judgedAt k s at = judged (endsAt k s at) (rangeAt k s at)
 unfoldable pub inside : Ends → Ends → Bool
 inside e outer = sameKind (e .kind) (outer .kind) && (atMost (e .kind) (outer .low) (e .low) && atMost (e .kind) (e .high) (outer .high))
 
+-- no NaN, not reversed, and inside
+abbrev pub within : Ends → Ends → Bool
+within e outer = atMost (e .kind) (e .low) (e .high) && inside e outer
+
 -- A range meets the query's when its minimum is at most the query's maximum and the query's minimum at most its maximum.
 -- A range with NaN meets nothing.
 unfoldable pub meets : Ends → Ends → Bool

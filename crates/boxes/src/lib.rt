@@ -3,9 +3,13 @@ use answers::Refusal;
 ghost use mathlib.Core.Path.{_≡_};
 ghost use mathlib.Core.Bool.{false, _&&_};
 ghost use Prim.Native.Nat.{_≤_, _<_};
+ghost use mir.Syntax.{w32, w64};
+ghost use Rattle.answers.specs.Refusals.{refusal};
+ghost use Rattle.answers.specs.Checks.{otherwise};
+ghost use Rattle.order.specs.Key.{signedAtMost};
 ghost use Rattle.boxes.specs.Limits.{outside};
 ghost use Rattle.boxes.specs.Kinds.{rangeBytes, kindNumber};
-ghost use Rattle.boxes.specs.Ranges.{kindOf, endsOf, endsAt, rangeAt, judged, judgedRefusal, inside, meets, lies};
+ghost use Rattle.boxes.specs.Ranges.{kindOf, endsOf, endsAt, rangeAt, judged, judgedRefusal, inside, within, meets, lies};
 ghost use Rattle.boxes.specs.Boxes.{noBox, boxOf, rangesRefusal, insideRefusal, meetsWindow};
 ghost use Rattle.boxes.specs.Layout.{rangeOfNumbers, rangeFrom, sidesFrom, firstFour};
 ghost use Rattle.boxes.specs.Windows.{sideRefusal, windowRefusal};
@@ -445,6 +449,110 @@ pub fn check_inside(
     } else {
         Refusal::new(number, 0)
     }
+}
+
+// The same, where the other box is in its bytes too. Only a box that fails in some dimension is asked for the fault.
+pub fn check_within(
+    bytes: &[u8],
+    kinds: [Dimension; 4],
+    dimensions: u64,
+    outer: &[u8],
+    number: u64,
+) -> Refusal
+    ensures { λ r. ⌜ r ≡ insideRefusal kinds (sidesOf dimensions) (now (bytes .entry)) (boxOf kinds (sidesOf dimensions) (now (outer .entry))) number ⌝ }
+{
+    let n = sides_of(dimensions);
+    let mut at: usize = 0;
+    let mut i: usize = 0;
+    while i < n {
+        let d = kinds[i];
+        let kind = d.kind;
+        if !side_within(bytes, outer, at, kind) {
+            return check_outside(bytes, kinds, dimensions, number);
+        }
+        at += kind.range_bytes();
+        i += 1;
+    }
+    Refusal::none()
+}
+
+// The ranges of a box in turn, and then a number at the box's start. It is apart from the loop above, which is faster without it.
+fn check_outside(bytes: &[u8], kinds: [Dimension; 4], dimensions: u64, number: u64) -> Refusal
+    ensures { λ r. ⌜ r ≡ otherwise (rangesRefusal kinds (sidesOf dimensions) (now (bytes .entry)) 0) (refusal number 0) ⌝ }
+{
+    let told = check_ranges(bytes, kinds, dimensions);
+    if told.number != 0 {
+        return told;
+    }
+    Refusal::new(number, 0)
+}
+
+// Whether the range at a place of a box's bytes has its ends in order and lies inside the one at that place of another's.
+fn side_within(bytes: &[u8], outer: &[u8], at: usize, kind: Kind) -> bool
+    ensures { λ r. ⌜ r ≡ within (endsAt kind (now (bytes .entry)) at) (endsAt kind (now (outer .entry)) at) ⌝ }
+{
+    match kind {
+        Kind::Int32 => {
+            let ends = order::pair32_at(bytes, at);
+            let around = order::pair32_at(outer, at);
+            both(
+                i32_in_order(ends.low, ends.high),
+                both(
+                    i32_in_order(around.low, ends.low),
+                    i32_in_order(ends.high, around.high),
+                ),
+            )
+        }
+        Kind::Int64 => {
+            let ends = order::pair64_at(bytes, at);
+            let around = order::pair64_at(outer, at);
+            both(
+                i64_in_order(ends.low, ends.high),
+                both(
+                    i64_in_order(around.low, ends.low),
+                    i64_in_order(ends.high, around.high),
+                ),
+            )
+        }
+        Kind::Float32 => {
+            let ends = order::pair32_at(bytes, at);
+            let around = order::pair32_at(outer, at);
+            let low = order::f32_of(ends.low);
+            let high = order::f32_of(ends.high);
+            both(
+                order::f32_pattern_at_most(ends.low, high),
+                both(
+                    order::f32_pattern_at_most(around.low, low),
+                    order::f32_at_most_pattern(high, around.high),
+                ),
+            )
+        }
+        Kind::Float64 => {
+            let ends = order::pair64_at(bytes, at);
+            let around = order::pair64_at(outer, at);
+            let low = order::f64_of(ends.low);
+            let high = order::f64_of(ends.high);
+            both(
+                order::f64_pattern_at_most(ends.low, high),
+                both(
+                    order::f64_pattern_at_most(around.low, low),
+                    order::f64_at_most_pattern(high, around.high),
+                ),
+            )
+        }
+    }
+}
+
+fn i32_in_order(p: u32, q: u32) -> bool
+    ensures { λ r. ⌜ r ≡ signedAtMost w32 p q ⌝ }
+{
+    order::i32_at_most(order::i32_of(p), order::i32_of(q))
+}
+
+fn i64_in_order(p: u64, q: u64) -> bool
+    ensures { λ r. ⌜ r ≡ signedAtMost w64 p q ⌝ }
+{
+    order::i64_at_most(order::i64_of(p), order::i64_of(q))
 }
 
 // A range as plain numbers: its kind number, and its ends among those of its kind, the others 0.

@@ -2,7 +2,7 @@
 -- level says (`level-told`); a level stands where the one above it ends (`level-rows`); and what the levels from a distance down say is what the
 -- first of them says and then what those below it say (`level-on`, `level-stop`).
 -- Assumes nothing.
-use mathlib.Core.Path.{_≡_, refl, sym, ap, _∙_}
+use mathlib.Core.Path.{_≡_, sym, ap, _∙_}
 use mathlib.Core.Bool.{not}
 use mathlib.Core.List.{List}
 use Prim.Native.Nat.{ℕ, suc, _+_, _-_, _*_, _/_, _≤_, _<_}
@@ -11,11 +11,10 @@ use native.Mathlib.Omega.{arith}
 use lib.ListN.{length, getD, take, drop, length-take, List·getD-eq-default}
 use lib.Seq.{getD-take, getD-drop}
 use Rattle.answers.specs.Refusals as refusals
-use Rattle.answers.specs.Runs.{over}
 use Rattle.answers.specs.Checks.{check, otherwise, each}
 use Rattle.answers.specs.declared.Refusal.{Refusal}
 use Rattle.answers.proofs.Runs.{over-ext}
-use Rattle.answers.proofs.Checks.{go-on, halt, both-clear, turn}
+use Rattle.answers.proofs.Checks.{go-on, halt, turn}
 use Rattle.boxes.specs.declared.Description.{Description}
 use Rattle.boxes.specs.declared.Side.{Side}
 use Rattle.boxes.specs.Description.{sidesOf, boxBytes}
@@ -29,7 +28,8 @@ use Rattle.tree.proofs.Limits.{root-near}
 use Rattle.tree.proofs.Table.{table-level}
 use Rattle.rtree.specs.Body.{fanoutOf}
 use Rattle.rtree.specs.Opening.{innerRefusal, levelRefusal}
-use Rattle.rtree.specs.Stored.{bytesAt, storedRefusal, runRefusal, childRefusal, childrenRefusal, treeRefusal, Run, Rows, Whole}
+use Rattle.rtree.specs.Stored.{bytesAt, storedRefusal, childRefusal, childrenRefusal, treeRefusal, Run, Rows, Whole}
+use Rattle.rtree.proofs.Stored.{Told, stored-clear, stored-fault}
 
 -- ---- a part of bytes is bytes
 pub part-bytes : (body : List ℕ) → ((i : ℕ) → getD body i 0 < 256) → (b place i : ℕ) → getD (take b (drop place body)) i 0 < 256
@@ -38,11 +38,6 @@ part-bytes body byte b place i = go (decLt i b)
     go : Dec (i < b) → getD (take b (drop place body)) i 0 < 256
     go (yes h) = rw (getD-take b (drop place body) i 0 h, getD-drop place body i 0) (byte (place + i))
     go (no h) = rw (List·getD-eq-default (take b (drop place body)) 0 {n = i} (simp length-take (omega arith))) (omega arith)
-
--- a run of one
-single : (g : ℕ → Refusal) → each g 0 1 ≡ otherwise (g 0) refusals.none
-unfolding over
-single g = refl
 
 module _ (d : Description) (n : ℕ) (body : List ℕ) where
   abbrev F : ℕ
@@ -171,24 +166,18 @@ module _ {d : Description} {n : ℕ} {body counts : List ℕ} {b f l : ℕ} (w :
         ∙ rw (next-start, here, w .own, w .fanout, level-count (above - 1) (omega arith))
         (rw same at (level-said d n body byte (above - 1)))
 
-  -- the first box, as a run of one, and every box
-  module _ (domain : List Side) (root : Refusal) (h : root ≡ runRefusal d b body domain refusals.outsideDomain 16 0 1) where
-    abbrev first : Refusal
-    first = storedRefusal d (boxBytes d) body domain refusals.outsideDomain 16
-
-    root-said : root ≡ otherwise first refusals.none
-    root-said =
-        let place : 16 + 0 * b ≡ 16 = omega arith in
-        h ∙ single _ ∙ rw (place, w .own)
-
+  -- the first box, from what was told of its bytes, and every box
+  module _ (domain : List Side) (root : Refusal) (h : Told d b body domain refusals.outsideDomain 16 root) where
     pub tree-on : root .number ≡ 0 → treeRefusal d n body domain ≡ downFrom d n body (height (fanoutOf body) n)
     unfolding treeRefusal
     tree-on z =
         let none : height (fanoutOf body) n - height (fanoutOf body) n ≡ 0 = omega arith in
-        go-on first _ (both-clear first refusals.none (ap (λ (r : Refusal). r .number) (sym root-said) ∙ z) .0) ∙ rw none
+        let clear = stored-clear d b body domain refusals.outsideDomain 16 (omega arith) root h z in
+        rw (← (w .own), none) (go-on (storedRefusal d b body domain refusals.outsideDomain 16) _ clear)
 
-    pub tree-stop : (root .number ≡ 0 → ⊥) → treeRefusal d n body domain ≡ root
+    pub tree-stop : (root .number ≡ 0 → ⊥) → treeRefusal d n body domain ≡ refusals.refusal (root .number) (16 + root .place)
     unfolding treeRefusal
     tree-stop z =
-        let some : first .number ≡ 0 → ⊥ = λ e. z (ap (λ (r : Refusal). r .number) (root-said ∙ go-on first refusals.none e)) in
-        halt first _ some ∙ sym (root-said ∙ halt first refusals.none some)
+        let fault = stored-fault d b body domain refusals.outsideDomain 16 (omega arith) root h z in
+        let some : storedRefusal d b body domain refusals.outsideDomain 16 .number ≡ 0 → ⊥ = λ e. z (sym (ap (λ (r : Refusal). r .number) fault) ∙ e) in
+        rw (← (w .own)) (halt (storedRefusal d b body domain refusals.outsideDomain 16) _ some ∙ fault)

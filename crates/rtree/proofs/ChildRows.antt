@@ -1,5 +1,5 @@
 -- The boxes of a level, row by row. The children of box k are those from k * f on, f of them or as many as are left, and k is the parent of each; so
--- what the level says from row k on is what that row says, against the box k that was read, and then what the level says from row k + 1 on.
+-- what the level says from row k on is what that row says, against the bytes of box k, and then what the level says from row k + 1 on.
 -- Assumes nothing.
 use mathlib.Core.Path.{_≡_, sym, ap, _∙_}
 use mathlib.Core.List.{List}
@@ -14,11 +14,10 @@ use Rattle.answers.specs.declared.Refusal.{Refusal}
 use Rattle.answers.proofs.Runs.{over-ext}
 use Rattle.answers.proofs.Checks.{go-on, halt, none-left, each-add}
 use Rattle.boxes.specs.declared.Description.{Description}
-use Rattle.boxes.specs.declared.Side.{Side}
 use Rattle.boxes.specs.Description.{sidesOf}
 use Rattle.boxes.specs.Boxes.{boxOf}
 use Rattle.tree.proofs.Shape.{up-tight, up-enough}
-use Rattle.rtree.specs.Stored.{bytesAt, runRefusal, childRefusal, Run, Rows}
+use Rattle.rtree.specs.Stored.{runRefusal, childRefusal, Run, Rows}
 
 -- the row from k * f on, and the rows after it, of c boxes in rows of f
 row-next : (g : ℕ → Refusal) (f c k : ℕ) → k * f ≤ c
@@ -57,18 +56,16 @@ module _ {d : Description} {b : ℕ} {body : List ℕ} {f start parents next cou
         let inside : k * f + len ≤ count = omega (arith, first-there) in
         record { own = r .below .own; some = r .below .some; there = omega (arith, r .below .there, mul-le-mul-right b inside) }
 
-    -- the box k as it was read, and what was told of its row
-    module _ (at : ℕ) (here : at ≡ start + k * b) (parent : List Side)
-        (read : parent ≡ boxOf (d .kinds) (sidesOf (d .dimensions)) (take (at + b - at) (drop at body)))
-        (told : Refusal) (h : told ≡ runRefusal d b body parent refusals.outsideParent next (k * f) len) where
+    -- the box k as it is lent, and what was told of its row
+    module _ (at : ℕ) (here : at ≡ start + k * b) (told : Refusal)
+        (h : told ≡ runRefusal d b body (boxOf (d .kinds) (sidesOf (d .dimensions)) (take (at + b - at) (drop at body))) refusals.outsideParent next (k * f) len) where
       parent-of : (i : ℕ) → k * f ≤ i → i < k * f + len → i / f ≡ k
       parent-of i x y = div-eq-of-lt-le {k = k} f {m = i} x (omega arith)
 
       told-row : told ≡ each (childRefusal d b body f start next) (k * f) len
       told-row =
           let size : at + b - at ≡ b = omega arith in
-          let own : parent ≡ boxOf (d .kinds) (sidesOf (d .dimensions)) (bytesAt d b body (start + k * b)) = rw (size, here) at read in
-          h ∙ over-ext otherwise refusals.none _ _ (k * f) len (λ i x y. rw (own, parent-of i x y))
+          h ∙ over-ext otherwise refusals.none _ _ (k * f) len (λ i x y. rw (size, here, parent-of i x y))
 
       split : each (childRefusal d b body f start next) (k * f) (count - k * f)
           ≡ otherwise told (each (childRefusal d b body f start next) ((k + 1) * f) (count - (k + 1) * f))

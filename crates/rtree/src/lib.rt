@@ -8,10 +8,11 @@ ghost use mathlib.Core.Path.{_≡_};
 ghost use Prim.Native.Nat.{ℕ, _+_, _-_, _^_, _≤_, _<_, min};
 ghost use lib.ListN.{length, getD, take, drop};
 ghost use Rattle.answers.specs.Runs.{sum};
+ghost use Rattle.answers.specs.Refusals.{outsideParent};
 ghost use Rattle.answers.specs.Checks.{otherwise};
 ghost use Rattle.boxes.specs.Limits.{leastTiles, mostTiles, Sizes};
 ghost use Rattle.boxes.specs.Description.{sidesOf, boxBytes};
-ghost use Rattle.boxes.specs.Boxes.{meetsWindow};
+ghost use Rattle.boxes.specs.Boxes.{boxOf, meetsWindow};
 ghost use Rattle.boxes.specs.Layout.{sidesFrom};
 ghost use Rattle.tree.specs.Shape.{levels, bodyBytes};
 ghost use Rattle.tree.specs.AnyNumbers.{mostWidth, levelTable};
@@ -549,18 +550,17 @@ fn check_boxes(
     requires { ⌜ Whole description tiles (now body) (now counts) width fanout levels ⌝ }
     ensures { λ r. ⌜ r ≡ treeRefusal description tiles (now (body .entry)) domain ⌝ }
 {
-    let root = check_run(
-        body,
-        description,
-        width,
-        16,
-        0,
-        1,
+    let kinds = description.kinds;
+    let first = 16 + width;
+    let root = boxes::check_inside(
+        &body[16..first],
+        kinds,
+        description.dimensions,
         domain,
         Refusal::OUTSIDE_DOMAIN,
     );
     if root.number != 0 {
-        return root;
+        return Refusal::new(root.number, 16 + root.place);
     }
     let mut start: usize = 16;
     let mut above = levels - 1;
@@ -601,24 +601,13 @@ fn check_level(
     requires { ⌜ Rows description width (now body) fanout start parents next boxes ⌝ }
     ensures { λ r. ⌜ r ≡ childrenRefusal description width (now (body .entry)) fanout start next boxes ⌝ }
 {
-    let kinds = description.kinds;
     let mut k: usize = 0;
     while k < parents {
         let at = start + k * width;
         let end = at + width;
-        let parent = boxes::read_box(&body[at..end], kinds, description.dimensions);
         let first = k * fanout;
         let len = row_length(fanout, boxes, first);
-        let told = check_run(
-            body,
-            description,
-            width,
-            next,
-            first,
-            len,
-            parent,
-            Refusal::OUTSIDE_PARENT,
-        );
+        let told = check_run(body, description, width, next, first, len, &body[at..end]);
         if told.number != 0 {
             return told;
         }
@@ -627,7 +616,7 @@ fn check_level(
     Refusal::none()
 }
 
-// Boxes one after the other, each inside the same outer box: `len` of those that begin at `start`, from `first` on.
+// Boxes one after the other, each inside the same parent: `len` of those that begin at `start`, from `first` on.
 fn check_run(
     body: &[u8],
     description: Description,
@@ -635,12 +624,10 @@ fn check_run(
     start: usize,
     first: usize,
     len: usize,
-    outer: [Side; 4],
-    number: u64,
+    parent: &[u8],
 ) -> Refusal
     requires { ⌜ Run description width (now body) start (first + len) ⌝ }
-    requires { ⌜ 0 < number ⌝ }
-    ensures { λ r. ⌜ r ≡ runRefusal description width (now (body .entry)) outer number start first len ⌝ }
+    ensures { λ r. ⌜ r ≡ runRefusal description width (now (body .entry)) (boxOf (description .kinds) (sidesOf (description .dimensions)) (now (parent .entry))) outsideParent start first len ⌝ }
 {
     let kinds = description.kinds;
     let last = first + len;
@@ -648,12 +635,12 @@ fn check_run(
     let mut i = first;
     while i < last {
         let end = at + width;
-        let told = boxes::check_inside(
+        let told = boxes::check_within(
             &body[at..end],
             kinds,
             description.dimensions,
-            outer,
-            number,
+            parent,
+            Refusal::OUTSIDE_PARENT,
         );
         if told.number != 0 {
             return Refusal::new(told.number, at as u64 + told.place);

@@ -1,0 +1,26 @@
+-- `boxes::i32_in_order` meets its contract: comparing the numbers is comparing their patterns. Assumes nothing.
+use mathlib.Core.Path.{_∙_}
+use borrow.Author.Needs.{needs}
+use mir.Syntax.{w32}
+use mir.ValLaws.{ofZ-toZ}
+use Rattle.boxes.proofs.Patterns.{as-passed}
+use Rattle.boxes.proofs.i32_in_order.Statement.{statement}
+use Rattle.boxes.proofs.i32_in_order.Tie as tie
+
+returns : tie.Need-returns
+returns c =
+    let q = c .before in
+    let p = q .before in
+    let s = p .before in
+    c .i32-at-most .ensures
+    ∙ as-passed w32 (p .i32-of .result) (q .i32-of2 .result) (p .i32-of .ok) (q .i32-of2 .ok)
+    ∙ rw (p .i32-of .ensures, q .i32-of2 .ensures, ofZ-toZ w32 (s .args .p) (s .fits .p), ofZ-toZ w32 (s .args .q) (s .fits .q))
+
+pub i32-in-order-spec : {M : Type 1} → statement M
+i32-in-order-spec =
+    tie.close
+    (tie.spec
+    (λ c κs. search needs)
+    (λ c κs. search needs)
+    (λ c κs. search needs)
+    returns)
