@@ -167,7 +167,8 @@ def page(tables, ratios):
           once, whichever is longer, one contender after the other, backward in every other round. A time is the median of the rounds. One thread.
 
         - **Release builds** for x86-64 with no further instruction sets, everything else as the compilers have it: `-C opt-level=3` and
-          `-O3 -DNDEBUG`. The library is linked as `make lib` makes it.
+          `-O3 -DNDEBUG`. The library is linked as `make lib` makes it. Where a loop happens to lie matters: with the loops of plain Rust aligned to
+          64 bytes, queries came out about a tenth worse for the library (docs/DECISIONS.md has the numbers of such a run).
 
         - **Plain Rust** (`bench/src/plain.rs`) makes the same checks and the same walk on the same bytes, from the same arguments, and
           answers the same. It has no `unsafe`.
