@@ -1,4 +1,4 @@
--- A window's sides laid out as plain numbers: which sides such numbers stand for.
+-- A window's sides laid out as plain numbers: which sides such numbers stand for. This is how a walk carries a window; no rule speaks of it.
 -- Assumes nothing.
 use Prim.Native.Nat.{ℕ, _+_, _*_}
 use mathlib.Core.List.{List, [], _∷_}

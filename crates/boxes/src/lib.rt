@@ -570,6 +570,7 @@ struct Numbers {
 
 // A window's sides as plain numbers, for a walk to lend on from box to box. `kinds` has the kind number of each side, and the array of that kind
 // has its minimum at twice its place and its maximum after it. A walk that is handed the sides themselves copies them for every row.
+// Free: the numbers at the places of other kinds, which nothing reads, and which number above 2 stands for float64.
 pub struct Laid {
     pub kinds: [u64; 4],
     pub i32s: [i32; 8],
