@@ -1,15 +1,19 @@
 /* Tussockbell for C and C++: the footer and the R-tree of a TileDB fragment's metadata, tile offsets and tile sizes.
  *
- * Every function takes any input and writes every place of its answer array; none keeps a pointer. A byte string is a pointer and a
- * length. With length 0 nothing is read or written through the pointer, which may then be null. A pointer to an answer array is never
- * null. An answer array and a result buffer do not overlap each other or any byte string that is lent in the same call.
+ * Every function takes any input and writes every place of its answer array; none keeps a pointer. A byte string is a
+ * pointer and a length. With length 0 nothing is read or written through the pointer, which may then be null. A pointer
+ * to an answer array is never null. An answer array and a result buffer do not overlap each other or any byte string
+ * that is lent in the same call.
  *
- * A description is `kinds`, one kind number for each of 1 to 4 dimensions; `fields`, the entries of each per-field list, 1 to 64; and
- * `capacity`, the cells of a full tile, 1 to 1000000000. A number that is no kind, and a number of kinds that is not 1 to 4, is refused
+ * A description is `kinds`, one kind number for each dimension; `fields`, the entries of each per-field list; and
+ * `capacity`, the cells of a full tile. A number that is no kind, and a number of kinds outside the limits, is refused
  * like any other number outside the limits, with TUSSOCKBELL_REFUSED_DESCRIPTION at place 0.
  *
- * An answer's first two places are the refusal's number, 0 for none, and its place in the bytes that were lent; where the refusal is about a
- * window's side, the place is its dimension, from 0. After a refusal every other number is 0 unless a comment says otherwise. */
+ * An answer's first two places are the refusal's number, 0 for none, and its place in the bytes that were lent;
+ * where the refusal is about a window's side, the place is its dimension, from 0. After a refusal every other number
+ * is 0 unless a comment says otherwise. The answers of tussockbell_schema_name, tussockbell_extent and
+ * tussockbell_extent_at hold no refusal, and neither do the numbers that a function returns; tussockbell_footer and
+ * tussockbell_offsets say whether a footer or a list is refused, and why. */
 #ifndef TUSSOCKBELL_H
 #define TUSSOCKBELL_H
 
@@ -25,6 +29,22 @@ extern "C" {
 #define TUSSOCKBELL_INT64 1
 #define TUSSOCKBELL_FLOAT32 2
 #define TUSSOCKBELL_FLOAT64 3
+
+/* Limits: the least and the most of each number that has them. */
+#define TUSSOCKBELL_LEAST_DIMENSIONS 1
+#define TUSSOCKBELL_MOST_DIMENSIONS 4
+#define TUSSOCKBELL_LEAST_FIELDS 1
+#define TUSSOCKBELL_MOST_FIELDS 64
+#define TUSSOCKBELL_LEAST_CAPACITY 1
+#define TUSSOCKBELL_MOST_CAPACITY 1000000000
+#define TUSSOCKBELL_LEAST_VERSION 16
+#define TUSSOCKBELL_MOST_VERSION 21
+#define TUSSOCKBELL_LEAST_NAME 1
+#define TUSSOCKBELL_MOST_NAME 255
+#define TUSSOCKBELL_LEAST_TILES 1
+#define TUSSOCKBELL_MOST_TILES 65536
+#define TUSSOCKBELL_LEAST_FANOUT 2
+#define TUSSOCKBELL_MOST_FANOUT 1024
 
 /* Refusal numbers. */
 #define TUSSOCKBELL_NOT_REFUSED 0
@@ -100,11 +120,12 @@ static inline const char *tussockbell_refusal_text(uint64_t number)
     }
 }
 
-/* The first two places of every answer that can be a refusal. */
+/* The first two places of every answer that holds a refusal. */
 #define TUSSOCKBELL_NUMBER 0
 #define TUSSOCKBELL_PLACE 1
 
-/* tussockbell_footer. The domain has three places for each of four dimensions, and each list 64. */
+/* tussockbell_footer. The domain has TUSSOCKBELL_DOMAIN_PLACES for each of TUSSOCKBELL_MOST_DIMENSIONS, and each list
+ * TUSSOCKBELL_FOOTER_LIST_PLACES. */
 #define TUSSOCKBELL_FOOTER_VERSION 2
 #define TUSSOCKBELL_FOOTER_NAME_SIZE 3
 #define TUSSOCKBELL_FOOTER_DENSE 4
@@ -166,14 +187,15 @@ static inline const char *tussockbell_refusal_text(uint64_t number)
 #define TUSSOCKBELL_SIZES_SUM 2
 #define TUSSOCKBELL_SIZES_PLACES 3
 
-/* Opens a footer of a metadata file of `file_size` bytes: every number of it. A dimension of the domain is its kind number and the bit
- * patterns of its ends, an end of 4 bytes in the low half. Dimensions past those that there are, and all four after a refusal, are an
- * int64 range 0 to 0, so that their kind place is 1. List places past `fields` are 0. */
+/* Opens a footer of a metadata file of `file_size` bytes: every number of it. A dimension of the domain is its kind
+ * number and the bit patterns of its ends, an end of 4 bytes in the low half. Dimensions past those that there are,
+ * and all of them after a refusal, are an int64 range 0 to 0, so that their kind place is 1. List places past
+ * `fields` are 0. */
 void tussockbell_footer(const uint8_t *kinds, size_t kinds_length, uint64_t fields, uint64_t capacity, uint64_t file_size,
                         const uint8_t *footer, size_t footer_length, uint64_t *answer /* [TUSSOCKBELL_FOOTER_PLACES] */);
 
-/* Where the schema name starts in the lent footer, and its bytes; 0 and 0 where the footer is refused. This function and the next two check the
- * whole footer on every call. */
+/* Where the schema name starts in the lent footer, and its bytes; 0 and 0 where the footer is refused. This function
+ * and the next two check the whole footer on every call. */
 void tussockbell_schema_name(const uint8_t *kinds, size_t kinds_length, uint64_t fields, uint64_t capacity, uint64_t file_size,
                              const uint8_t *footer, size_t footer_length, uint64_t *answer /* [TUSSOCKBELL_NAME_PLACES] */);
 
@@ -190,14 +212,16 @@ void tussockbell_open(const uint8_t *kinds, size_t kinds_length, uint64_t fields
                       const uint8_t *footer, size_t footer_length, const uint8_t *tree, size_t tree_length,
                       uint64_t *answer /* [TUSSOCKBELL_OPEN_PLACES] */);
 
-/* Which tiles does a window touch, in a tree of `tiles` tiles? The answer has how many were found and how many boxes were looked at. The
- * first places of `out` hold the first tiles found, as many as fit, and the others are untouched, all of them where the query is refused.
- * The window is its own kind numbers and then, for each of them, its minimum and its maximum, little-endian, of that kind. Ranges whose
- * bytes are not all there count as 0 to 0, and bytes past the last are ignored. A number of window kinds unlike the description's is
- * TUSSOCKBELL_REFUSED_WINDOW at 0; a kind unlike the description's, or a number that is no kind, is that at its dimension, in its turn.
- * Boxes are not checked again. Over a tree that tussockbell_open accepts with this description and this number of tiles, the tiles found
- * are exactly those whose box meets the window, in rising order, and the number looked at is the rules' flat count. For every query that
- * is not refused, with f the fanout and L the levels, looked * (f - 1) <= L * (f - 1) + (tiles - 1) * f. */
+/* Which tiles does a window touch, in a tree of `tiles` tiles? The answer has how many were found and how many boxes
+ * were looked at. The first places of `out` hold the first tiles found, as many as fit, and the others are
+ * untouched, all of them where the query is refused. The window is its own kind numbers and then, for each of them,
+ * its minimum and its maximum, little-endian, of that kind. Ranges whose bytes are not all there count as 0 to 0,
+ * and bytes past the last are ignored. A number of window kinds unlike the description's is
+ * TUSSOCKBELL_REFUSED_WINDOW at 0; a kind unlike the description's, or a number that is no kind, is that at its
+ * dimension, in its turn. Boxes are not checked again. Over a tree that tussockbell_open accepts with this
+ * description and this number of tiles, the tiles found are exactly those whose box meets the window, in rising
+ * order, and the number looked at is the rules' flat count. For every query that is not refused, with f the fanout
+ * and L the levels, looked * (f - 1) <= L * (f - 1) + (tiles - 1) * f. */
 void tussockbell_query(const uint8_t *kinds, size_t kinds_length, uint64_t fields, uint64_t capacity, uint64_t tiles,
                        const uint8_t *tree, size_t tree_length, const uint8_t *window_kinds, size_t window_kinds_length,
                        const uint8_t *window_ends, size_t window_ends_length, uint32_t *out, size_t out_length,
@@ -207,13 +231,13 @@ void tussockbell_query(const uint8_t *kinds, size_t kinds_length, uint64_t field
 void tussockbell_offsets(uint64_t tiles, uint64_t size, const uint8_t *list, size_t list_length,
                          uint64_t *answer /* [TUSSOCKBELL_OFFSETS_PLACES] */);
 
-/* Where a tile's bytes start in the data file, and how many they are, after the whole list is checked; 0 and 0 where the list is refused,
- * and past the last tile. */
+/* Where a tile's bytes start in the data file, and how many they are, after the whole list is checked; 0 and 0 where
+ * the list is refused, and past the last tile. */
 void tussockbell_extent(uint64_t tiles, uint64_t size, const uint8_t *list, size_t list_length, uint64_t tile,
                         uint64_t *answer /* [TUSSOCKBELL_EXTENT_PLACES] */);
 
-/* The same with no check of the list, for one that tussockbell_offsets accepts with these numbers: then the answer is
- * tussockbell_extent's. Over other bytes an entry that is not there counts as 0, and an extent below 0 as 0. */
+/* The same with no check of the list, for one that tussockbell_offsets accepts with these numbers: then the answer
+ * is tussockbell_extent's. Over other bytes an entry that is not there counts as 0, and an extent below 0 as 0. */
 void tussockbell_extent_at(uint64_t tiles, uint64_t size, const uint8_t *list, size_t list_length, uint64_t tile,
                            uint64_t *answer /* [TUSSOCKBELL_EXTENT_PLACES] */);
 
@@ -221,8 +245,8 @@ void tussockbell_extent_at(uint64_t tiles, uint64_t size, const uint8_t *list, s
 void tussockbell_sizes(uint64_t tiles, const uint8_t *list, size_t list_length,
                        uint64_t *answer /* [TUSSOCKBELL_SIZES_PLACES] */);
 
-/* The report of the contents of four files: description, footer, tree and offsets. Returns the length of its text, and writes the text at the
- * start of `out` if all of it fits; otherwise `out` stays as it was. */
+/* The report of the contents of four files: description, footer, tree and offsets. Returns the length of its text,
+ * and writes the text at the start of `out` if all of it fits; otherwise `out` stays as it was. */
 size_t tussockbell_report(const uint8_t *description, size_t description_length, const uint8_t *footer, size_t footer_length,
                           const uint8_t *tree, size_t tree_length, const uint8_t *offsets, size_t offsets_length, uint8_t *out,
                           size_t out_length);

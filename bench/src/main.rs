@@ -323,7 +323,7 @@ fn main() {
     for dimensions in 1..=4 {
         for tiles in TILES {
             let leaves = data::leaves(dimensions, tiles);
-            let single = [Kind::Int32, Kind::Int64, Kind::Float32, Kind::Float64].map(|kind| vec![kind; dimensions]);
+            let single = Kind::ALL.map(|kind| vec![kind; dimensions]);
             let mix = (dimensions > 1).then(|| MIX[..dimensions].to_vec());
             for kinds in single.into_iter().chain(mix).filter(|kinds| described(kinds).starts_with(only)) {
                 eprintln!("bench: {} D={dimensions} n={tiles}", described(&kinds));

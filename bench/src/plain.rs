@@ -1,12 +1,50 @@
 //! The library's operations as one would write them in plain Rust, to compare speeds with: the same input, the same checks, the same walk, no
 //! proofs. What goes in and comes out is what the C functions take and answer, so that one could stand in for the other.
 
+/// By TileDB's Datatype number.
 #[derive(Clone, Copy, PartialEq)]
 pub enum Kind {
     Int32 = 0,
     Int64 = 1,
     Float32 = 2,
     Float64 = 3,
+}
+
+/// Least and most.
+mod limits {
+    use std::ops::RangeInclusive;
+
+    pub const DIMENSIONS: RangeInclusive<usize> = 1..=4;
+    pub const FIELDS: RangeInclusive<u64> = 1..=64;
+    pub const CAPACITY: RangeInclusive<u64> = 1..=1_000_000_000;
+    pub const VERSION: RangeInclusive<u32> = 16..=21;
+    pub const NAME: RangeInclusive<u64> = 1..=255;
+    pub const TILES: RangeInclusive<u64> = 1..=65_536;
+    pub const FANOUT: RangeInclusive<usize> = 2..=1_024;
+}
+
+/// The refusal numbers.
+mod refusal {
+    pub const DESCRIPTION: u64 = 1;
+    pub const BYTES: u64 = 2;
+    pub const VERSION: u64 = 3;
+    pub const NAME_SIZE: u64 = 4;
+    pub const FLAG: u64 = 5;
+    pub const DENSE: u64 = 6;
+    pub const NULL_DOMAIN: u64 = 7;
+    pub const NOT_A_NUMBER: u64 = 8;
+    pub const REVERSED: u64 = 9;
+    pub const TILES: u64 = 10;
+    pub const LAST_CELLS: u64 = 11;
+    pub const OFFSET: u64 = 12;
+    pub const FANOUT: u64 = 13;
+    pub const LEVELS: u64 = 14;
+    pub const OUTSIDE_PARENT: u64 = 15;
+    pub const OUTSIDE_DOMAIN: u64 = 16;
+    pub const COUNT: u64 = 17;
+    pub const TILE_OFFSETS: u64 = 18;
+    pub const WINDOW: u64 = 19;
+    pub const SUM: u64 = 20;
 }
 
 #[derive(Debug, PartialEq)]
@@ -33,14 +71,14 @@ fn u64_at(bytes: &[u8], at: usize) -> u64 {
 struct Ends<T>(T, T);
 
 impl<T: PartialOrd> Ends<T> {
-    /// 8, 9 or nothing.
+    /// The refusal's number, or nothing.
     fn fault(&self) -> Option<u64> {
         if self.0 <= self.1 {
             None
         } else if self.0 > self.1 {
-            Some(9)
+            Some(refusal::REVERSED)
         } else {
-            Some(8)
+            Some(refusal::NOT_A_NUMBER)
         }
     }
 
@@ -72,8 +110,16 @@ macro_rules! number {
 number!(i32, i64, f32, f64);
 
 impl Kind {
+    pub const ALL: [Kind; 4] = [Kind::Int32, Kind::Int64, Kind::Float32, Kind::Float64];
+
     fn of(number: u8) -> Option<Kind> {
-        [Kind::Int32, Kind::Int64, Kind::Float32, Kind::Float64].get(number as usize).copied()
+        match number {
+            k if k == Kind::Int32 as u8 => Some(Kind::Int32),
+            k if k == Kind::Int64 as u8 => Some(Kind::Int64),
+            k if k == Kind::Float32 as u8 => Some(Kind::Float32),
+            k if k == Kind::Float64 as u8 => Some(Kind::Float64),
+            _ => None,
+        }
     }
 
     /// The fault of a stored range, and whether it lies inside another.
@@ -92,8 +138,10 @@ impl Kind {
 
     fn range_bytes(self) -> usize {
         match self {
-            Kind::Int32 | Kind::Float32 => 8,
-            Kind::Int64 | Kind::Float64 => 16,
+            Kind::Int32 => 8,
+            Kind::Int64 => 16,
+            Kind::Float32 => 8,
+            Kind::Float64 => 16,
         }
     }
 }
@@ -120,8 +168,10 @@ impl Range {
 
     fn bytes(&self) -> usize {
         match self {
-            Range::Int32(_) | Range::Float32(_) => 8,
-            Range::Int64(_) | Range::Float64(_) => 16,
+            Range::Int32(_) => Kind::Int32.range_bytes(),
+            Range::Int64(_) => Kind::Int64.range_bytes(),
+            Range::Float32(_) => Kind::Float32.range_bytes(),
+            Range::Float64(_) => Kind::Float64.range_bytes(),
         }
     }
 
@@ -155,14 +205,14 @@ struct Description {
 
 impl Description {
     fn new(numbers: &[u8], fields: u64, capacity: u64) -> Result<Description, Refused> {
-        if !(1..=4).contains(&numbers.len()) || !(1..=64).contains(&fields) || !(1..=1_000_000_000).contains(&capacity) {
-            return refuse(1, 0);
+        if !limits::DIMENSIONS.contains(&numbers.len()) || !limits::FIELDS.contains(&fields) || !limits::CAPACITY.contains(&capacity) {
+            return refuse(refusal::DESCRIPTION, 0);
         }
         let mut d = Description { kinds: [Kind::Int64; 4], dimensions: numbers.len(), fields, capacity };
         for (kind, number) in d.kinds.iter_mut().zip(numbers) {
             match Kind::of(*number) {
                 Some(known) => *kind = known,
-                None => return refuse(1, 0),
+                None => return refuse(refusal::DESCRIPTION, 0),
             }
         }
         Ok(d)
@@ -179,13 +229,13 @@ impl Description {
     /// A window of these kinds. Ranges whose bytes are not all there count as 0 to 0.
     fn window(&self, numbers: &[u8], ends: &[u8]) -> Result<[Range; 4], Refused> {
         if numbers.len() != self.dimensions {
-            return refuse(19, 0);
+            return refuse(refusal::WINDOW, 0);
         }
         let mut window = [Range::NONE; 4];
         let mut at = 0;
         for (i, (kind, number)) in self.kinds().iter().zip(numbers).enumerate() {
             if Kind::of(*number) != Some(*kind) {
-                return refuse(19, i);
+                return refuse(refusal::WINDOW, i);
             }
             let to = at + kind.range_bytes();
             window[i] = Range::read(*kind, ends.get(at..to).unwrap_or(&[0; 16]));
@@ -208,11 +258,11 @@ struct Shape {
 
 fn shape(tiles: usize, width: usize, body: &[u8]) -> Result<Shape, Refused> {
     if body.len() < 8 {
-        return refuse(2, body.len());
+        return refuse(refusal::BYTES, body.len());
     }
     let fanout = u32_at(body, 0) as usize;
-    if !(2..=1024).contains(&fanout) {
-        return refuse(13, 0);
+    if !limits::FANOUT.contains(&fanout) {
+        return refuse(refusal::FANOUT, 0);
     }
     let mut shape = Shape { fanout, levels: 1, counts: [0; 17], starts: [0; 17] };
     let mut count = tiles;
@@ -224,16 +274,16 @@ fn shape(tiles: usize, width: usize, body: &[u8]) -> Result<Shape, Refused> {
     }
     shape.counts[..shape.levels].reverse();
     if u32_at(body, 4) as usize != shape.levels {
-        return refuse(14, 4);
+        return refuse(refusal::LEVELS, 4);
     }
     let boxes: usize = shape.counts.iter().sum();
     if body.len() != 8 + 8 * shape.levels + width * boxes {
-        return refuse(2, body.len());
+        return refuse(refusal::BYTES, body.len());
     }
     let mut at = 8;
     for level in 0..shape.levels {
         if u64_at(body, at) != shape.counts[level] as u64 {
-            return refuse(14, at);
+            return refuse(refusal::LEVELS, at);
         }
         shape.starts[level] = at + 8;
         at += 8 + width * shape.counts[level];
@@ -290,8 +340,8 @@ pub fn query(
     kinds: &[u8], fields: u64, capacity: u64, tiles: u64, tree: &[u8], window_kinds: &[u8], window_ends: &[u8], out: &mut [u32],
 ) -> Result<(u64, u64), Refused> {
     let d = Description::new(kinds, fields, capacity)?;
-    if !(1..=65_536).contains(&tiles) {
-        return refuse(10, 0);
+    if !limits::TILES.contains(&tiles) {
+        return refuse(refusal::TILES, 0);
     }
     let window = d.window(window_kinds, window_ends)?;
     let width = d.box_bytes();
@@ -304,28 +354,28 @@ pub fn query(
 /// The number of tiles of a footer, and where its domain starts.
 fn footer(d: &Description, file_size: u64, bytes: &[u8]) -> Result<(u64, usize), Refused> {
     if bytes.len() < 12 {
-        return refuse(2, bytes.len());
+        return refuse(refusal::BYTES, bytes.len());
     }
-    if !(16..=21).contains(&u32_at(bytes, 0)) {
-        return refuse(3, 0);
+    if !limits::VERSION.contains(&u32_at(bytes, 0)) {
+        return refuse(refusal::VERSION, 0);
     }
     let name = u64_at(bytes, 4);
-    if !(1..=255).contains(&name) {
-        return refuse(4, 4);
+    if !limits::NAME.contains(&name) {
+        return refuse(refusal::NAME_SIZE, 4);
     }
     let fields = d.fields as usize;
     let total = 64 + name as usize + d.box_bytes() + 88 * fields;
     if bytes.len() != total || file_size < total as u64 {
-        return refuse(2, bytes.len());
+        return refuse(refusal::BYTES, bytes.len());
     }
     let flag = |at: usize, set: Option<u64>| match (bytes[at], set) {
         (0, _) | (1, None) => Ok(()),
         (1, Some(number)) => refuse(number, at),
-        _ => refuse(5, at),
+        _ => refuse(refusal::FLAG, at),
     };
     let mut at = 12 + name as usize;
-    flag(at, Some(6))?;
-    flag(at + 1, Some(7))?;
+    flag(at, Some(refusal::DENSE))?;
+    flag(at + 1, Some(refusal::NULL_DOMAIN))?;
     at += 2;
     let domain = at;
     for kind in d.kinds() {
@@ -335,23 +385,23 @@ fn footer(d: &Description, file_size: u64, bytes: &[u8]) -> Result<(u64, usize),
         at += kind.range_bytes();
     }
     let tiles = u64_at(bytes, at);
-    if !(1..=65_536).contains(&tiles) {
-        return refuse(10, at);
+    if !limits::TILES.contains(&tiles) {
+        return refuse(refusal::TILES, at);
     }
     if !(1..=d.capacity).contains(&u64_at(bytes, at + 8)) {
-        return refuse(11, at + 8);
+        return refuse(refusal::LAST_CELLS, at + 8);
     }
     flag(at + 16, None)?;
     flag(at + 17, None)?;
     at += 18 + 24 * fields;
     for _ in 0..8 * fields + 3 {
         if u64_at(bytes, at) >= file_size - total as u64 {
-            return refuse(12, at);
+            return refuse(refusal::OFFSET, at);
         }
         at += 8;
     }
     if u64_at(bytes, at) != total as u64 - 8 {
-        return refuse(2, bytes.len());
+        return refuse(refusal::BYTES, bytes.len());
     }
     Ok((tiles, domain))
 }
@@ -383,12 +433,12 @@ fn boxes(d: &Description, tiles: usize, domain: &[u8], body: &[u8]) -> Result<(u
     let width = d.box_bytes();
     let shape = shape(tiles, width, body)?;
     let level = |i: usize| &body[shape.starts[i]..shape.starts[i] + shape.counts[i] * width];
-    check_box(d.kinds(), level(0), shape.starts[0], domain, 16)?;
+    check_box(d.kinds(), level(0), shape.starts[0], domain, refusal::OUTSIDE_DOMAIN)?;
     for i in 1..shape.levels {
         let mut at = shape.starts[i];
         for (parent, row) in level(i - 1).chunks_exact(width).zip(level(i).chunks(shape.fanout * width)) {
             for child in row.chunks_exact(width) {
-                check_box(d.kinds(), child, at, parent, 15)?;
+                check_box(d.kinds(), child, at, parent, refusal::OUTSIDE_PARENT)?;
                 at += width;
             }
         }
@@ -397,17 +447,17 @@ fn boxes(d: &Description, tiles: usize, domain: &[u8], body: &[u8]) -> Result<(u
 }
 
 fn entries(tiles: u64, list: &[u8]) -> Result<impl Iterator<Item = (usize, u64)> + '_, Refused> {
-    if !(1..=65_536).contains(&tiles) {
-        return refuse(10, 0);
+    if !limits::TILES.contains(&tiles) {
+        return refuse(refusal::TILES, 0);
     }
     if list.len() < 8 {
-        return refuse(2, list.len());
+        return refuse(refusal::BYTES, list.len());
     }
     if u64_at(list, 0) != tiles {
-        return refuse(17, 0);
+        return refuse(refusal::COUNT, 0);
     }
     if list.len() as u64 != 8 + 8 * tiles {
-        return refuse(2, list.len());
+        return refuse(refusal::BYTES, list.len());
     }
     Ok(list[8..].chunks_exact(8).enumerate().map(|(i, bytes)| (8 + 8 * i, u64::from_le_bytes(bytes.try_into().unwrap()))))
 }
@@ -417,11 +467,11 @@ pub fn offsets(tiles: u64, size: u64, list: &[u8]) -> Result<u64, Refused> {
     let mut entries = entries(tiles, list)?;
     let mut before = 0;
     if entries.next().is_some_and(|(_, first)| first != 0 || first >= size) {
-        return refuse(18, 8);
+        return refuse(refusal::TILE_OFFSETS, 8);
     }
     for (at, offset) in entries {
         if offset <= before || offset >= size {
-            return refuse(18, at);
+            return refuse(refusal::TILE_OFFSETS, at);
         }
         before = offset;
     }
@@ -434,7 +484,7 @@ pub fn sizes(tiles: u64, list: &[u8]) -> Result<u64, Refused> {
     for (at, size) in entries(tiles, list)? {
         match sum.checked_add(size) {
             Some(more) => sum = more,
-            None => return refuse(20, at),
+            None => return refuse(refusal::SUM, at),
         }
     }
     Ok(sum)

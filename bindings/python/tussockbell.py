@@ -48,7 +48,13 @@ Range = Tuple[End, End]
 
 # ---- the names of include/tussockbell.h, without their TUSSOCKBELL
 
-_INT32, _INT64, _FLOAT32, _FLOAT64 = range(4)
+# Kinds: TileDB's Datatype number, and one end as `struct` has it.
+_KINDS = {
+    "int32": (0, "<i"),
+    "int64": (1, "<q"),
+    "float32": (2, "<f"),
+    "float64": (3, "<d"),
+}
 
 _TEXTS = {
     0: "not refused",
@@ -222,8 +228,10 @@ def _kept(data: Bytes) -> Iterator[memoryview]:
 
 _LARGEST = 2**64 - 1
 _NO_KIND = 255
-_NAMES = {"int32": _INT32, "int64": _INT64, "float32": _FLOAT32, "float64": _FLOAT64}
-_FORMATS = {_INT32: "<i", _INT64: "<q", _FLOAT32: "<f", _FLOAT64: "<d"}
+_NAMES = {name: number for name, (number, _) in _KINDS.items()}
+_FORMATS = dict(_KINDS.values())
+_INTEGERS = [_NAMES["int32"], _NAMES["int64"]]
+_FLOAT32 = _NAMES["float32"]
 _WIDTHS = {kind: struct.calcsize(one) for kind, one in _FORMATS.items()}
 # Both ends at once, where nothing has to be looked at first.
 _PAIRS = {kind: struct.Struct(one + one[1]).pack for kind, one in _FORMATS.items() if kind != _FLOAT32}
@@ -288,7 +296,7 @@ def _pattern(kind: int, end: Any) -> Optional[bytes]:
     elif not hasattr(type(end), "__float__"):
         raise TypeError(f"a window's end is a number or its bytes, not {type(end).__name__}")
     try:
-        if kind in (_INT32, _INT64):
+        if kind in _INTEGERS:
             return _integer_pattern(kind, end)
         return _float_pattern(kind, end) if kind in _FORMATS else None
     except (OverflowError, ValueError):
@@ -327,7 +335,7 @@ def _window_bytes(kinds: bytes, sides: Sequence[Any]) -> tuple[bytes, bytes]:
 class Description:
     """What is known of a fragment beforehand, from the array's schema.
 
-    `kinds` has a kind for each dimension: "int32", "int64", "float32", "float64", or TileDB's Datatype number of it (0 to 3).
+    `kinds` has a kind for each dimension: "int32", "int64", "float32", "float64", or TileDB's Datatype number of it.
     `fields` is the number of entries in each per-field list of the footer. `capacity` is the cells of a full tile.
 
     A description is not checked when it is made. One outside the limits is refused (1 at 0) where it is used.

@@ -98,7 +98,7 @@ class Fragment:
     def near(self, kind, middle, width=25):
         low = middle + self.chance.randrange(-30, 30)
         high = low + self.chance.randrange(0, width)
-        return (low, high) if kind.startswith("int") else (low / 4, high / 4)
+        return (low, high) if rules.KINDS[kind].whole else (low / 4, high / 4)
 
     def damaged(self, data):
         """Other bytes: some changed, some left off, some added, or the same."""
@@ -117,7 +117,7 @@ class Fragment:
     def side(self, kind, middle):
         """A side as the binding takes it, and its kind and numbers as the reference does; NaN, reversed or not held at times."""
         low, high = self.near(kind, middle, 120)
-        whole, way = kind.startswith("int"), self.chance.randrange(24)
+        whole, way = rules.KINDS[kind].whole, self.chance.randrange(24)
         if way == 0:
             return (high + 1, low), kind, (high + 1, low)
         if way == 1:
@@ -127,7 +127,7 @@ class Fragment:
             nan, inf = math.nan, math.inf
             low, high = self.chance.choice([(nan, high), (low, nan), (-inf, high), (low, inf), (0.1, 1e300), (-1e300, 0.3)])
         patterns = [self.pattern(kind, x) for x in (low, high)]
-        numbers = tuple(struct.unpack(rules.FORMATS[kind], p)[0] for p in patterns)
+        numbers = tuple(struct.unpack(rules.KINDS[kind].format, p)[0] for p in patterns)
         if way < 9:
             return patterns, kind, numbers
         return ((float(low), float(high)) if way < 12 else (low, high)), kind, numbers
@@ -147,7 +147,7 @@ class Fragment:
             kinds = kinds + ["int32"] * self.chance.randrange(1, 4)
         own = way in (1, 2, 3)
         if way == 2:
-            kinds[self.chance.randrange(len(kinds))] = self.chance.choice(rules.KINDS)
+            kinds[self.chance.randrange(len(kinds))] = self.chance.choice(list(rules.KINDS))
         middle = self.chance.randrange(10 * self.n)
         sides = [self.side(kind, middle) for kind in kinds]
         ranges = [given for given, _, _ in sides]
@@ -156,12 +156,12 @@ class Fragment:
 
 def known_of(description):
     """A description for the reference; one with something that is no kind has no dimensions there, which is refused alike."""
-    kinds = description.kinds if all(k in rules.KINDS for k in description.kinds) else []
+    kinds = description.kinds if all(k in list(rules.KINDS) for k in description.kinds) else []
     return rules.Description(list(kinds), description.fields, description.capacity)
 
 
 def random_fragment(chance):
-    kinds = [chance.choice(rules.KINDS) for _ in range(chance.randrange(1, 5))]
+    kinds = [chance.choice(list(rules.KINDS)) for _ in range(chance.randrange(1, 5))]
     return Fragment(kinds, chance.randrange(1, 30), chance.randrange(2, 7), chance.randrange(1, 4), chance)
 
 
@@ -386,11 +386,11 @@ class Windows(unittest.TestCase):
     def test_float_ends(self):
         for kind in ("float32", "float64"):
             for end in (0.0, -0.0, 1.5, -2.25, math.inf, -math.inf, 7, True, Decimal("0.5"), Fraction(-1, 4)):
-                self.assertEqual(pattern(kind, end), struct.pack(rules.FORMATS[kind], float(end)))
+                self.assertEqual(pattern(kind, end), struct.pack(rules.KINDS[kind].format, float(end)))
             for end in (10**400, Fraction(10**400), Decimal("1e400")):
                 self.assertEqual(pattern(kind, end), pattern(kind, math.inf))
                 self.assertEqual(pattern(kind, -end), pattern(kind, -math.inf))
-            self.assertTrue(math.isnan(struct.unpack(rules.FORMATS[kind], pattern(kind, math.nan))[0]))
+            self.assertTrue(math.isnan(struct.unpack(rules.KINDS[kind].format, pattern(kind, math.nan))[0]))
         for end in (1e39, -1e39, 3.5e38, 2**128, -(2**200), 0.1, 1e-50, 1e-310, 16777217, 16777219, 2**128 - 2**103):
             self.assertEqual(pattern("float32", end), bytes(ctypes.c_float(end)))
         self.assertEqual(pattern("float32", 2**128 - 2**103 - 1), b"\xff\xff\x7f\x7f")
@@ -422,7 +422,7 @@ class Windows(unittest.TestCase):
 
     def test_exact_patterns(self):
         for kind in rules.KINDS:
-            width = rules.RANGE_BYTES[kind] // 2
+            width = rules.KINDS[kind].range_bytes // 2
             exact = bytes(range(1, width + 1))
             self.assertEqual(pattern(kind, exact), exact)
             self.assertEqual(pattern(kind, bytearray(exact)), exact)
@@ -657,8 +657,8 @@ class Header(unittest.TestCase):
     def test_texts(self):
         cases = re.findall(r'case TUSSOCKBELL_(\w+):\s+return "(.*)";', self.header)
         self.assertEqual({self.defined[name]: text for name, text in cases}, tb._TEXTS)
-        self.assertEqual(re.findall(r'default:\s+return "(.*)";', self.header), [tb.Refused(21, 0).text])
-        self.assertEqual(sorted(tb._TEXTS), list(range(21)))
+        self.assertEqual(re.findall(r'default:\s+return "(.*)";', self.header), [tb.Refused(max(tb._TEXTS) + 1, 0).text])
+        self.assertEqual(sorted(tb._TEXTS), list(range(len(tb._TEXTS))))
 
     def test_places(self):
         constants = {name[1:]: value for name, value in vars(tb).items() if re.fullmatch("_[A-Z0-9_]+", name)}

@@ -10,11 +10,16 @@ import sys
 import pieces
 import rules
 from pieces import u64
-from rules import Description, Refused
+from rules import KINDS, LIMITS, Description, Refusal, Refused
 
 NAN32 = struct.pack("<I", 0x7FC00000)
 NAN64 = struct.pack("<Q", 0x7FF8000000000001)
 MOST = 2**64 - 1
+# What the program reads.
+SPACE = 524_288
+MOST_DIMENSIONS, MOST_FIELDS, MOST_CAPACITY, MOST_TILES, MOST_FANOUT = (
+    LIMITS[what][1] for what in ("dimensions", "fields", "capacity", "tiles", "fanout")
+)
 LISTS = ["file_sizes", "file_var_sizes", "file_validity_sizes", "tile_offsets", "var_offsets", "var_sizes"]
 LISTS += ["validity", "mins", "maxes", "sums", "null_counts"]
 
@@ -24,9 +29,9 @@ class Cases:
         self.asked, self.answers = [], []
 
     def add(self, what, d, numbers, first, second, answer):
-        kinds = [rules.KINDS.index(k) for k in d.kinds] + [3] * (4 - len(d.kinds))
+        kinds = [KINDS[k].number for k in d.kinds] + [KINDS["float64"].number] * (MOST_DIMENSIONS - len(d.kinds))
         numbers = list(numbers) + [0] * (3 - len(numbers))
-        row = [what, d.dimensions] + kinds[:4] + [d.fields, d.capacity] + numbers + [len(first)]
+        row = [what, d.dimensions] + kinds + [d.fields, d.capacity] + numbers + [len(first)]
         case = b"".join(map(u64, row)) + first + second
         self.asked.append(u64(len(case) + 8) + case)
         self.answers.append(b"".join(str(x).encode() + b"\t" for x in [what]) + answer + b"\n")
@@ -48,8 +53,8 @@ def footer_answer(d, file_size, data, tile):
     numbers = [0, 0, f["version"], f["name_size"], f["dense"], f["null_domain"], f["tiles"], f["last_cells"]]
     numbers += [f["timestamps"], f["deletes"], f["rtree"], f["fragment"], f["conditions"], f["length"]]
     for name in LISTS:
-        entries = f[name] + [0] * (64 - d.fields)
-        numbers += [entries[0], entries[1], entries[2], entries[63]]
+        entries = f[name] + [0] * (MOST_FIELDS - d.fields)
+        numbers += [entries[0], entries[1], entries[2], entries[-1]]
     numbers.append(rules.cells(f["tiles"], f["last_cells"], d.capacity, tile))
     numbers.append(rules.total_cells(f["tiles"], f["last_cells"], d.capacity))
     return text(numbers)
@@ -67,7 +72,7 @@ def footer_cases(cases):
     one = Description(["int32"], 1, 32)
     two = Description(["int32", "int32"], 1, 32)
     mixed = Description(["int32", "float64", "int64", "float32"], 2, 1000)
-    many = Description(["float32"], 64, 10**9)
+    many = Description(["float32"], MOST_FIELDS, MOST_CAPACITY)
     zero = [(-5, 24)]
 
     def ask(d, data, file_size, tile=0):
@@ -86,7 +91,7 @@ def footer_cases(cases):
         ask(two, worked.data(), worked.file_size, tile)
     full = [(-(2**31), 2**31 - 1)]
     ask_changed(one, full, tiles=1, last_cells=32)
-    ask_changed(one, zero, tiles=65536)
+    ask_changed(one, zero, tiles=MOST_TILES)
     ask_changed(mixed, [(0, 24), (-1.5, float("inf")), (-(2**63), 2**63 - 1), (0.0, -0.0)])
     f = pieces.Footer(many, [(float("-inf"), 0.5)], name=b"\0" * 255)
     ask(many, f.data(), f.file_size, 2)
@@ -97,8 +102,9 @@ def footer_cases(cases):
     # 1
     data = pieces.Footer(one, zero).data()
     for d in (
-        Description(["int32"], 1, 32, 0), Description(["int32"], 1, 32, 5), Description(["int32"], 0, 32),
-        Description(["int32"], 65, 32), Description(["int32"], 1, 0), Description(["int32"], 1, 10**9 + 1),
+        Description(["int32"], 1, 32, 0), Description(["int32"], 1, 32, MOST_DIMENSIONS + 1),
+        Description(["int32"], 0, 32), Description(["int32"], MOST_FIELDS + 1, 32),
+        Description(["int32"], 1, 0), Description(["int32"], 1, MOST_CAPACITY + 1),
         Description(["int32"], MOST, MOST, MOST),
     ):
         ask(d, data, 10000)
@@ -135,7 +141,7 @@ def footer_cases(cases):
     ask_changed(Description(["int64"], 1, 32), [(0, -(2**63))])
 
     # 10, 11
-    for tiles in (0, 65537, MOST):
+    for tiles in (0, MOST_TILES + 1, MOST):
         ask_changed(one, zero, tiles=tiles)
     for last in (0, 33, MOST):
         ask_changed(one, zero, last_cells=last)
@@ -193,7 +199,7 @@ def list_cases(cases):
     ask(1, 1, pieces.entries([0]))
     ask(1, 0, pieces.entries([0]))
     for list_case in (lambda n, data: ask(n, 300, data), ask_sizes):
-        for n in (0, 65537, MOST):
+        for n in (0, MOST_TILES + 1, MOST):
             list_case(n, good)
         for n in (2, 4):
             list_case(n, good)
@@ -209,17 +215,17 @@ def pattern(kind, x):
 
 def window_bytes(kinds, window, dimensions=None):
     row = [len(kinds) if dimensions is None else dimensions]
-    for i in range(4):
+    for i in range(MOST_DIMENSIONS):
         if i < len(kinds):
-            row += [rules.KINDS.index(kinds[i]), pattern(kinds[i], window[i][0]), pattern(kinds[i], window[i][1])]
+            row += [KINDS[kinds[i]].number, pattern(kinds[i], window[i][0]), pattern(kinds[i], window[i][1])]
         else:
-            row += [2, 0x7FC00000, 0x7FC00000]
+            row += [KINDS["float32"].number, pattern("float32", NAN32), pattern("float32", NAN32)]
     return b"".join(map(u64, row))
 
 
 def numbers_of(kinds, window):
     """The window with the numbers that its ends stand for."""
-    return [tuple(struct.unpack(rules.FORMATS[k], pieces.end(k, x))[0] for x in pair) for k, pair in zip(kinds, window)]
+    return [tuple(struct.unpack(KINDS[k].format, pieces.end(k, x))[0] for x in pair) for k, pair in zip(kinds, window)]
 
 
 def tree_cases(cases):
@@ -234,7 +240,7 @@ def tree_cases(cases):
         try:
             if dimensions is not None and dimensions != len(kinds):
                 rules.Description.check(d)
-                raise Refused(19, 0)
+                raise Refused(Refusal.WINDOW, 0)
             found, looked = rules.query(d, n, body, kinds, given)
             answer = [0, 0, len(found), looked]
             room = min(room, 8)
@@ -242,6 +248,18 @@ def tree_cases(cases):
         except Refused as r:
             answer = [r.number, r.place, 0, 0]
         cases.add(6, d, [n, room], body, window_bytes(kinds, window, dimensions), text(answer + buffer))
+
+    def ask_opened(d, foot, body, kinds, window, room=8):
+        """A tree that is opened and asked."""
+        buffer = [7] * 8
+        try:
+            found, looked = rules.open_and_ask(d, foot.file_size, foot.data(), body, kinds, numbers_of(kinds, window))
+            answer = [0, 0, len(found), looked]
+            buffer[: min(room, len(found))] = found[:room]
+        except Refused as r:
+            answer = [r.number, r.place, 0, 0]
+        second = window_bytes(kinds, window) + body
+        cases.add(7, d, [foot.file_size, room], foot.data(), second, text(answer + buffer))
 
     def ask_open(d, foot, body):
         try:
@@ -264,6 +282,21 @@ def tree_cases(cases):
     # wider parents than the children need
     ask_open(one, pieces.Footer(one, [(-5, 100)]), tree_a[:32] + pieces.box(["int32"], [(0, 20), (15, 24)]) + tree_a[48:])
 
+    # opened and asked: accepted; refused for footer, body and description; a window that is refused
+    for window in ((12, 21), (5, 9), (30, 40), (4, 4), (0, 24)):
+        for room in (0, 1, 8):
+            ask_opened(one, foot, tree_a, ["int32"], [window], room)
+    for bad_foot, bad_body in (
+        (pieces.Footer(one, [(1, 24)]), tree_a), (pieces.Footer(one, [(0, 24)], tiles=2), tree_a),
+        (pieces.Footer(one, [(0, 24)], last_cells=33), tree_a), (foot, tree_a[:79]), (foot, b""),
+        (foot, tree_a[:72] + pieces.box(["int32"], [(20, 25)])),
+    ):
+        ask_opened(one, bad_foot, bad_body, ["int32"], [(12, 21)])
+    ask_opened(Description(["int32"], 1, 0), foot, tree_a, ["int32"], [(12, 21)])
+    ask_opened(one, foot, tree_a, ["int32"], [(21, 12)])
+    ask_opened(one, foot, tree_a, ["int64"], [(12, 21)])
+    ask_opened(one, foot, tree_a[:79], ["int32"], [(21, 12)])
+
     # the shape, asked and opened
     def ask_both(body, n=3):
         ask(one, n, body, ["int32"], [(12, 21)])
@@ -274,16 +307,16 @@ def tree_cases(cases):
     for cut in (0, 7, 8, 15, 16, 79):
         ask_both(tree_a[:cut])
     ask_both(tree_a + b"\0")
-    for f in (0, 1, 3, 1024, 1025, 2**32 - 1):
+    for f in (0, 1, 3, MOST_FANOUT, MOST_FANOUT + 1, 2**32 - 1):
         ask_both(pieces.u32(f) + tree_a[4:])
     for level_number in (0, 2, 4, 2**32 - 1):
         ask_both(tree_a[:4] + pieces.u32(level_number) + tree_a[8:])
     for at in (8, 24, 48):
         for count in (0, 4, MOST, 2**32 + rules.number(tree_a, at, 8)):
             ask_both(tree_a[:at] + u64(count) + tree_a[at + 8 :])
-    for n in (1, 2, 4, 5, 65536):
+    for n in (1, 2, 4, 5, MOST_TILES):
         ask_both(tree_a, n)
-    for n in (0, 65537, MOST):
+    for n in (0, MOST_TILES + 1, MOST):
         ask(one, n, tree_a, ["int32"], [(12, 21)])
     single = pieces.tree(["int32"], [[(3, 9)]], 7)
     assert len(single) == 24
@@ -333,7 +366,7 @@ def tree_cases(cases):
     for kinds in (["int32"], ["int64"], ["float32"], ["float64"], ["int32", "int64", "float32", "float64"]):
         d = Description(kinds, 1, 32)
         for n, f in ((1, 2), (2, 2), (7, 3), (10, 10), (11, 10)):
-            leaves = [[(i - 3, i - 2) if k.startswith("int") else (i - 3.5, i - 1.5) for k in kinds] for i in range(n)]
+            leaves = [[(i - 3, i - 2) if KINDS[k].whole else (i - 3.5, i - 1.5) for k in kinds] for i in range(n)]
             b = pieces.tree(kinds, leaves, f)
             ask_open(d, pieces.Footer(d, [(-9, 99)] * len(kinds), tiles=n), b)
             for low, high in ((-1, 1), (n - 3, n - 3), (-99, 99), (n + 9, n + 9)):
@@ -358,11 +391,13 @@ def fixture_cases(cases):
         cases.add(4, none, [n], sizes, b"", text([0, 0, int(size)]))
         for line in (folder / "answers").read_text().splitlines():
             ends, tiles, looked, _ = line.split("\t")
-            numbers = [int(x) if k.startswith("int") else float(x) for k, x in zip([k for k in d.kinds for _ in (0, 1)], ends.split())]
+            numbers = [int(x) if KINDS[k].whole else float(x) for k, x in zip([k for k in d.kinds for _ in (0, 1)], ends.split())]
             window = list(zip(numbers[::2], numbers[1::2]))
             tiles = [int(t) for t in tiles.split()]
             buffer = (tiles + [7] * 8)[:8]
-            cases.add(6, d, [n, 8], body, window_bytes(d.kinds, window), text([0, 0, len(tiles), int(looked)] + buffer))
+            answer, second = text([0, 0, len(tiles), int(looked)] + buffer), window_bytes(d.kinds, window)
+            cases.add(6, d, [n, 8], body, second, answer)
+            cases.add(7, d, [int(file_size), 8], foot, second + body, answer)
 
 
 def main():
@@ -371,8 +406,10 @@ def main():
     list_cases(cases)
     tree_cases(cases)
     fixture_cases(cases)
+    size = sum(map(len, cases.asked))
+    assert size < SPACE
     cases.write(pathlib.Path(sys.argv[1]))
-    sys.stderr.write(f"{len(cases.asked)} cases, {sum(map(len, cases.asked))} bytes\n")
+    sys.stderr.write(f"{len(cases.asked)} cases, {size} bytes\n")
 
 
 if __name__ == "__main__":

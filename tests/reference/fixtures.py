@@ -25,7 +25,7 @@ def leaves(kinds, n, chance):
         for position, kind in enumerate(kinds):
             low = 10 * i - 40 if position == 0 else chance.randrange(-500, 500)
             high = low + chance.randrange(0, 12)
-            box.append((low, high) if kind.startswith("int") else (low / 4, high / 4))
+            box.append((low, high) if rules.KINDS[kind].whole else (low / 4, high / 4))
         made.append(box)
     return made
 
@@ -38,7 +38,7 @@ def write(folder, name, version, kinds, n, f, fields, chance):
     foot.version = version
     extents = [chance.randrange(1, 5000) for _ in range(n)]
     starts = [sum(extents[:i]) for i in range(n)]
-    window = [(low, low + 25) if kind.startswith("int") else (low / 4, low / 4 + 25) for kind, (low, _) in zip(kinds, boxes[n // 2])]
+    window = [(low, low + 25) if rules.KINDS[kind].whole else (low / 4, low / 4 + 25) for kind, (low, _) in zip(kinds, boxes[n // 2])]
     place = folder / name
     place.mkdir(parents=True, exist_ok=True)
     (place / "footer").write_bytes(foot.data())
@@ -58,8 +58,8 @@ def write(folder, name, version, kinds, n, f, fields, chance):
         lines.append(f"{ends}\t{' '.join(map(str, found))}\t{looked}\t{count}\n")
     (place / "answers").write_text("".join(lines))
     (place / "about").write_text(f"{' '.join(kinds)}\n{fields}\n{d.capacity}\n{foot.file_size}\n{sum(extents)}\n")
-    if all(kind.startswith("int") for kind in kinds):
-        numbers = [len(kinds)] + [int(k[3:]) for k in kinds] + [fields, d.capacity, foot.file_size, sum(extents)]
+    if all(rules.KINDS[kind].whole for kind in kinds):
+        numbers = [len(kinds)] + [4 * rules.KINDS[k].range_bytes for k in kinds] + [fields, d.capacity, foot.file_size, sum(extents)]
         numbers += [x for pair in window for x in pair]
         text = "".join(f"{x}\n" for x in numbers).encode()
         (place / "description").write_bytes(text)

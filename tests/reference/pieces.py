@@ -15,7 +15,7 @@ def u64(x):
 
 def end(kind, x):
     """One end of a range: a number, or the bytes of its pattern."""
-    return x if isinstance(x, bytes) else struct.pack(rules.FORMATS[kind], x)
+    return x if isinstance(x, bytes) else struct.pack(rules.KINDS[kind].format, x)
 
 
 def box(kinds, ranges):

@@ -8,7 +8,7 @@ import re
 import sys
 
 import rules
-from rules import Description, Refused
+from rules import LIMITS, Description, Refusal, Refused
 
 LONGEST = 65536
 DECIMAL = re.compile(rb"0|-?[1-9][0-9]*")
@@ -17,7 +17,7 @@ DECIMAL = re.compile(rb"0|-?[1-9][0-9]*")
 def decimal(line, low, high):
     """A decimal number from low to high, or refusal 1."""
     if not DECIMAL.fullmatch(line) or not low <= int(line) <= high:
-        raise Refused(1, 0)
+        raise Refused(Refusal.DESCRIPTION, 0)
     return int(line)
 
 
@@ -32,14 +32,14 @@ def asked(text):
         try:
             return decimal(next(take), low, high)
         except StopIteration:
-            raise Refused(1, 0)
+            raise Refused(Refusal.DESCRIPTION, 0)
 
-    dimensions = number(1, 4)
+    dimensions = number(*LIMITS["dimensions"])
     kinds = []
     for _ in range(dimensions):
         bits = number(32, 64)
         if bits not in (32, 64):
-            raise Refused(1, 0)
+            raise Refused(Refusal.DESCRIPTION, 0)
         kinds.append("int32" if bits == 32 else "int64")
     fields, capacity, file_size, data_size = number(), number(), number(), number()
     window = []
@@ -47,7 +47,7 @@ def asked(text):
         half = 2**31 if kind == "int32" else 2**63
         window.append((number(-half, half - 1), number(-half, half - 1)))
     if next(take, None) is not None:
-        raise Refused(1, 0)
+        raise Refused(Refusal.DESCRIPTION, 0)
     d = Description(kinds, fields, capacity)
     d.check()
     return d, file_size, data_size, window

@@ -7,11 +7,63 @@ over every box.
 
 import math
 import struct
+from typing import NamedTuple
 
-KINDS = ["int32", "int64", "float32", "float64"]
-FORMATS = {"int32": "<i", "int64": "<q", "float32": "<f", "float64": "<d"}
-RANGE_BYTES = {"int32": 8, "int64": 16, "float32": 8, "float64": 16}
-MOST_TILES = 65536
+
+class Kind(NamedTuple):
+    number: int  # TileDB's Datatype number
+    range_bytes: int
+    format: str  # of one end, for struct
+    whole: bool
+
+
+KINDS = {
+    "int32": Kind(0, 8, "<i", True),
+    "int64": Kind(1, 16, "<q", True),
+    "float32": Kind(2, 8, "<f", False),
+    "float64": Kind(3, 16, "<d", False),
+}
+
+# Least and most.
+LIMITS = {
+    "dimensions": (1, 4),
+    "fields": (1, 64),
+    "capacity": (1, 1_000_000_000),
+    "version": (16, 21),
+    "name": (1, 255),
+    "tiles": (1, 65_536),
+    "fanout": (2, 1_024),
+}
+
+
+class Refusal:
+    """The refusal numbers."""
+
+    DESCRIPTION = 1
+    BYTES = 2
+    VERSION = 3
+    NAME_SIZE = 4
+    FLAG = 5
+    DENSE = 6
+    NULL_DOMAIN = 7
+    NOT_A_NUMBER = 8
+    REVERSED = 9
+    TILES = 10
+    LAST_CELLS = 11
+    OFFSET = 12
+    FANOUT = 13
+    LEVELS = 14
+    OUTSIDE_PARENT = 15
+    OUTSIDE_DOMAIN = 16
+    COUNT = 17
+    TILE_OFFSETS = 18
+    WINDOW = 19
+    SUM = 20
+
+
+def allowed(what, x):
+    least, most = LIMITS[what]
+    return least <= x <= most
 
 
 class Refused(Exception):
@@ -26,11 +78,11 @@ class Description:
         self.dimensions = len(kinds) if dimensions is None else dimensions
 
     def check(self):
-        if not (1 <= self.dimensions <= 4 and 1 <= self.fields <= 64 and 1 <= self.capacity <= 10**9):
-            raise Refused(1, 0)
+        if not all(allowed(what, getattr(self, what)) for what in ("dimensions", "fields", "capacity")):
+            raise Refused(Refusal.DESCRIPTION, 0)
 
     def box_bytes(self):
-        return sum(RANGE_BYTES[k] for k in self.kinds[: self.dimensions])
+        return sum(KINDS[k].range_bytes for k in self.kinds[: self.dimensions])
 
 
 def number(data, at, size):
@@ -42,9 +94,9 @@ def is_nan(x):
 
 
 def stored_range(kind, data, at):
-    half = RANGE_BYTES[kind] // 2
-    low = struct.unpack(FORMATS[kind], data[at : at + half])[0]
-    high = struct.unpack(FORMATS[kind], data[at + half : at + 2 * half])[0]
+    half = KINDS[kind].range_bytes // 2
+    low = struct.unpack(KINDS[kind].format, data[at : at + half])[0]
+    high = struct.unpack(KINDS[kind].format, data[at + half : at + 2 * half])[0]
     return low, high
 
 
@@ -52,17 +104,17 @@ def stored_box(d, data, at):
     box = []
     for kind in d.kinds[: d.dimensions]:
         box.append(stored_range(kind, data, at))
-        at += RANGE_BYTES[kind]
+        at += KINDS[kind].range_bytes
     return box
 
 
 def check_ranges(d, data, at):
     for kind, (low, high) in zip(d.kinds, stored_box(d, data, at)):
         if is_nan(low) or is_nan(high):
-            raise Refused(8, at)
+            raise Refused(Refusal.NOT_A_NUMBER, at)
         if low > high:
-            raise Refused(9, at)
-        at += RANGE_BYTES[kind]
+            raise Refused(Refusal.REVERSED, at)
+        at += KINDS[kind].range_bytes
 
 
 def inside(box, outer):
@@ -79,22 +131,22 @@ def meets(box, window):
 def footer(d, file_size, data):
     d.check()
     if len(data) < 12:
-        raise Refused(2, len(data))
+        raise Refused(Refusal.BYTES, len(data))
     version = number(data, 0, 4)
-    if not 16 <= version <= 21:
-        raise Refused(3, 0)
+    if not allowed("version", version):
+        raise Refused(Refusal.VERSION, 0)
     size = number(data, 4, 8)
-    if not 1 <= size <= 255:
-        raise Refused(4, 4)
+    if not allowed("name", size):
+        raise Refused(Refusal.NAME_SIZE, 4)
     n, b = d.fields, d.box_bytes()
     total = 64 + size + b + 88 * n
     if len(data) != total or file_size < total:
-        raise Refused(2, len(data))
+        raise Refused(Refusal.BYTES, len(data))
     answer = {"version": version, "name_size": size, "name": data[12 : 12 + size]}
     at = 12 + size
-    for name, refusal in (("dense", 6), ("null_domain", 7)):
+    for name, refusal in (("dense", Refusal.DENSE), ("null_domain", Refusal.NULL_DOMAIN)):
         if data[at] > 1:
-            raise Refused(5, at)
+            raise Refused(Refusal.FLAG, at)
         if data[at] == 1:
             raise Refused(refusal, at)
         answer[name] = data[at]
@@ -103,16 +155,16 @@ def footer(d, file_size, data):
     answer["domain"] = stored_box(d, data, at)
     at += b
     answer["tiles"] = number(data, at, 8)
-    if not 1 <= answer["tiles"] <= MOST_TILES:
-        raise Refused(10, at)
+    if not allowed("tiles", answer["tiles"]):
+        raise Refused(Refusal.TILES, at)
     at += 8
     answer["last_cells"] = number(data, at, 8)
     if not 1 <= answer["last_cells"] <= d.capacity:
-        raise Refused(11, at)
+        raise Refused(Refusal.LAST_CELLS, at)
     at += 8
     for name in ("timestamps", "deletes"):
         if data[at] > 1:
-            raise Refused(5, at)
+            raise Refused(Refusal.FLAG, at)
         answer[name] = data[at]
         at += 1
     for name in ("file_sizes", "file_var_sizes", "file_validity_sizes"):
@@ -123,7 +175,7 @@ def footer(d, file_size, data):
         nonlocal at
         value = number(data, at, 8)
         if value >= file_size - total:
-            raise Refused(12, at)
+            raise Refused(Refusal.OFFSET, at)
         at += 8
         return value
 
@@ -134,7 +186,7 @@ def footer(d, file_size, data):
     answer["conditions"] = offset()
     answer["length"] = number(data, at, 8)
     if answer["length"] != total - 8:
-        raise Refused(2, len(data))
+        raise Refused(Refusal.BYTES, len(data))
     return answer
 
 
@@ -160,20 +212,20 @@ def level_counts(n, f):
 def check_shape(d, n, body):
     """The counts and the places of the levels' first boxes, root first."""
     if len(body) < 8:
-        raise Refused(2, len(body), 1)
+        raise Refused(Refusal.BYTES, len(body), 1)
     f = number(body, 0, 4)
-    if not 2 <= f <= 1024:
-        raise Refused(13, 0, 1)
+    if not allowed("fanout", f):
+        raise Refused(Refusal.FANOUT, 0, 1)
     counts = level_counts(n, f)
     if number(body, 4, 4) != len(counts):
-        raise Refused(14, 4, 1)
+        raise Refused(Refusal.LEVELS, 4, 1)
     b = d.box_bytes()
     if len(body) != 8 + 8 * len(counts) + b * sum(counts):
-        raise Refused(2, len(body), 1)
+        raise Refused(Refusal.BYTES, len(body), 1)
     starts, at = [], 8
     for count in counts:
         if number(body, at, 8) != count:
-            raise Refused(14, at, 1)
+            raise Refused(Refusal.LEVELS, at, 1)
         starts.append(at + 8)
         at += 8 + b * count
     return f, counts, starts
@@ -194,9 +246,9 @@ def open_tree(d, file_size, footer_data, body):
             box = stored_box(d, body, at)
             if level == 0:
                 if not inside(box, foot["domain"]):
-                    raise Refused(16, at, 1)
+                    raise Refused(Refusal.OUTSIDE_DOMAIN, at, 1)
             elif not inside(box, stored_box(d, body, starts[level - 1] + k // f * b)):
-                raise Refused(15, at, 1)
+                raise Refused(Refusal.OUTSIDE_PARENT, at, 1)
     return {"tiles": n, "fanout": f, "levels": len(counts)}
 
 
@@ -205,21 +257,21 @@ def open_tree(d, file_size, footer_data, body):
 
 def check_window(d, kinds, window):
     if len(kinds) != d.dimensions:
-        raise Refused(19, 0)
+        raise Refused(Refusal.WINDOW, 0)
     for i, (kind, (low, high)) in enumerate(zip(kinds, window)):
         if kind != d.kinds[i]:
-            raise Refused(19, i)
+            raise Refused(Refusal.WINDOW, i)
         if is_nan(low) or is_nan(high):
-            raise Refused(8, i)
+            raise Refused(Refusal.NOT_A_NUMBER, i)
         if low > high:
-            raise Refused(9, i)
+            raise Refused(Refusal.REVERSED, i)
 
 
 def query(d, n, body, kinds, window):
     """Tiles found and the looked-at number, by the walk."""
     d.check()
-    if not 1 <= n <= MOST_TILES:
-        raise Refused(10, 0)
+    if not allowed("tiles", n):
+        raise Refused(Refusal.TILES, 0)
     check_window(d, kinds, window)
     f, counts, starts = check_shape(d, n, body)
     b = d.box_bytes()
@@ -240,6 +292,15 @@ def query(d, n, body, kinds, window):
     return found, looked
 
 
+def open_and_ask(d, file_size, footer_data, body, kinds, window):
+    """An opened tree, asked. A refused one holds an empty body and n 0, and the description that was given."""
+    try:
+        n = open_tree(d, file_size, footer_data, body)["tiles"]
+    except Refused:
+        n, body = 0, b""
+    return query(d, n, body, kinds, window)
+
+
 def flat(d, n, body, window):
     """The flat listing and the flat count of a body whose shape is right."""
     f, counts, starts = check_shape(d, n, body)
@@ -257,14 +318,14 @@ def flat(d, n, body, window):
 
 
 def check_list(n, data):
-    if not 1 <= n <= MOST_TILES:
-        raise Refused(10, 0)
+    if not allowed("tiles", n):
+        raise Refused(Refusal.TILES, 0)
     if len(data) < 8:
-        raise Refused(2, len(data))
+        raise Refused(Refusal.BYTES, len(data))
     if number(data, 0, 8) != n:
-        raise Refused(17, 0)
+        raise Refused(Refusal.COUNT, 0)
     if len(data) != 8 + 8 * n:
-        raise Refused(2, len(data))
+        raise Refused(Refusal.BYTES, len(data))
     return [number(data, 8 + 8 * i, 8) for i in range(n)]
 
 
@@ -272,7 +333,7 @@ def offsets(n, size, data):
     entries = check_list(n, data)
     for i, x in enumerate(entries):
         if x >= size or (x != 0 if i == 0 else x <= entries[i - 1]):
-            raise Refused(18, 8 + 8 * i)
+            raise Refused(Refusal.TILE_OFFSETS, 8 + 8 * i)
     return entries
 
 
@@ -286,5 +347,5 @@ def sizes(n, data):
     for i, x in enumerate(check_list(n, data)):
         total += x
         if total >= 2**64:
-            raise Refused(20, 8 + 8 * i)
+            raise Refused(Refusal.SUM, 8 + 8 * i)
     return total

@@ -23,7 +23,6 @@ except ImportError:
     sys.exit(3)
 
 CASES = [(["int32"], 7, 50), (["int64"], 10, 101), (["int32", "int32"], 16, 300), (["int64", "int32"], 100, 1000)]
-RANGE_BYTES = {"int32": 8, "int64": 16}
 
 
 def write_array(folder, kinds, capacity, cells, chance):
@@ -60,7 +59,7 @@ def main():
             data = (fragment / "__fragment_metadata.tdb").read_bytes()
             # the attribute's data file comes first, then the dimensions'; the metadata lists them with the coordinates' entry between
             fields = len(kinds) + 2
-            footer, tree, lists = cut.cut(data, sum(RANGE_BYTES[k] for k in kinds), fields)
+            footer, tree, lists = cut.cut(data, sum(2 * numpy.dtype(k).itemsize for k in kinds), fields)
             size = (fragment / "a0.tdb").stat().st_size
             for name, part in (("footer", footer), ("tree", tree), ("offsets", lists[0])):
                 (space / name).write_bytes(part)

@@ -5,8 +5,7 @@ use crate::places::*;
 use crate::{Description, Range, Refused, Which};
 use std::fmt;
 
-/// The most dimensions that a footer has.
-const MOST_DIMENSIONS: usize = 4;
+const MOST_DIMENSIONS: usize = Description::MOST_DIMENSIONS as usize;
 
 /// An accepted footer: every number of it, its domain, and its schema name.
 ///
@@ -111,10 +110,10 @@ macro_rules! named {
 
 named! {
     version: number(FOOTER_VERSION) -> u64, "The format version, 16 to 21.";
-    name_size: number(FOOTER_NAME_SIZE) -> u64, "The bytes of the schema name, 1 to 255.";
+    name_size: number(FOOTER_NAME_SIZE) -> u64, "The bytes of the schema name.";
     dense: flag(FOOTER_DENSE) -> bool, "Whether the fragment is dense: false, since that is refused.";
     null_domain: flag(FOOTER_NULL_DOMAIN) -> bool, "Whether there is no domain: false, since that is refused.";
-    tiles: number(FOOTER_TILES) -> u64, "The number of tiles, 1 to 65,536.";
+    tiles: number(FOOTER_TILES) -> u64, "The number of tiles.";
     last_cells: number(FOOTER_LAST_CELLS) -> u64, "The cells of the last tile, 1 to the capacity.";
     timestamps: flag(FOOTER_TIMESTAMPS) -> bool, "Whether the fragment includes timestamps.";
     deletes: flag(FOOTER_DELETES) -> bool, "Whether the fragment includes delete metadata.";

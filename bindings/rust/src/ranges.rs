@@ -17,11 +17,15 @@ pub enum Kind {
 }
 
 impl Kind {
-    /// The bytes of one end of a range.
-    fn width(self) -> usize {
+    const ALL: [Kind; 4] = [Kind::Int32, Kind::Int64, Kind::Float32, Kind::Float64];
+
+    /// The bytes of a range.
+    const fn range_bytes(self) -> usize {
         match self {
-            Kind::Int32 | Kind::Float32 => 4,
-            Kind::Int64 | Kind::Float64 => 8,
+            Kind::Int32 => 8,
+            Kind::Int64 => 16,
+            Kind::Float32 => 8,
+            Kind::Float64 => 16,
         }
     }
 }
@@ -38,24 +42,46 @@ impl TryFrom<u8> for Kind {
     type Error = Refused;
 
     fn try_from(number: u8) -> Result<Kind, Refused> {
-        let kinds = [Kind::Int32, Kind::Int64, Kind::Float32, Kind::Float64];
         let refused = Refused { number: Refused::DESCRIPTION, place: 0, which: Which::First };
-        kinds.get(usize::from(number)).copied().ok_or(refused)
+        Kind::ALL.into_iter().find(|kind| *kind as u8 == number).ok_or(refused)
     }
 }
 
 /// What has to be known of an array to read its fragments.
 ///
 /// It may hold any values: each function checks all of it, and refuses one outside the limits with
-/// [`Refused::DESCRIPTION`] at 0.
+/// [`Refused::DESCRIPTION`] at 0. The constants are the limits, of the description and of what is read.
 #[derive(Clone, Copy, Debug, PartialEq, Eq, Hash)]
 pub struct Description<'a> {
-    /// The kind of each dimension, 1 to 4 of them.
+    /// The kind of each dimension.
     pub kinds: &'a [Kind],
-    /// The entries of each per-field list of a footer, 1 to 64.
+    /// The entries of each per-field list of a footer.
     pub fields: u64,
-    /// The cells of a full tile, 1 to 1,000,000,000.
+    /// The cells of a full tile.
     pub capacity: u64,
+}
+
+macro_rules! limits {
+    ($($least:ident $most:ident $what:literal $from:literal $to:literal;)*) => {
+        impl Description<'_> {
+            $(
+                #[doc = concat!("The least ", $what, ": ", $from, ".")]
+                pub const $least: u64 = $from;
+                #[doc = concat!("The most ", $what, ": ", $to, ".")]
+                pub const $most: u64 = $to;
+            )*
+        }
+    };
+}
+
+limits! {
+    LEAST_DIMENSIONS MOST_DIMENSIONS "dimensions" 1 4;
+    LEAST_FIELDS MOST_FIELDS "entries of each per-field list" 1 64;
+    LEAST_CAPACITY MOST_CAPACITY "cells of a full tile" 1 1_000_000_000;
+    LEAST_VERSION MOST_VERSION "that a footer's version may be" 16 21;
+    LEAST_NAME MOST_NAME "bytes of the schema name" 1 255;
+    LEAST_TILES MOST_TILES "tiles" 1 65_536;
+    LEAST_FANOUT MOST_FANOUT "that a tree's fanout may be" 2 1_024;
 }
 
 /// One side of a window or of a domain: a minimum and a maximum, both of them in the range.
@@ -105,24 +131,28 @@ impl Range {
 
 /// One side more than any description that is not refused has. So a window of even more sides is refused like its first
 /// five: with 1 or 10, or else with 19 at 0 since the number of sides differs, before any side is looked at.
-const MOST_SIDES: usize = 5;
+const MOST_SIDES: usize = Description::MOST_DIMENSIONS as usize + 1;
+
+/// As many as a range of any kind has: both ends' patterns.
+const RANGE_BYTES: usize = std::mem::size_of::<[u64; 2]>();
 
 /// A window as the library takes it: the kinds of its sides, and their ends, little-endian, one after the other.
 pub(crate) struct Window {
     kinds: [Kind; MOST_SIDES],
     sides: usize,
-    ends: [u8; 16 * MOST_SIDES],
+    ends: [u8; RANGE_BYTES * MOST_SIDES],
     bytes: usize,
 }
 
 impl Window {
     pub(crate) fn new(sides: &[Range]) -> Window {
-        let mut window = Window { kinds: [Kind::Int32; MOST_SIDES], sides: 0, ends: [0; 16 * MOST_SIDES], bytes: 0 };
+        let (kinds, ends) = ([Kind::Int32; MOST_SIDES], [0; RANGE_BYTES * MOST_SIDES]);
+        let mut window = Window { kinds, sides: 0, ends, bytes: 0 };
         for side in sides.iter().take(MOST_SIDES) {
             window.kinds[window.sides] = side.kind();
             window.sides += 1;
             for end in side.to_bits() {
-                let bytes = &end.to_le_bytes()[..side.kind().width()];
+                let bytes = &end.to_le_bytes()[..side.kind().range_bytes() / 2];
                 window.ends[window.bytes..][..bytes.len()].copy_from_slice(bytes);
                 window.bytes += bytes.len();
             }

@@ -23,7 +23,7 @@ pub enum Which {
 /// ```
 #[derive(Clone, Copy, Debug, PartialEq, Eq, Hash)]
 pub struct Refused {
-    /// The refusal's number, 1 to 20; the constants have them by name.
+    /// The refusal's number; the constants have them by name.
     pub number: u64,
     /// The position of the field's first byte in the lent bytes. Where a byte count or the length field is wrong it is
     /// the number of lent bytes, in a window the dimension counted from 0, and where no bytes are to blame 0.

@@ -110,12 +110,12 @@ pub fn open_tree<'a>(
 }
 
 impl Tree<'_> {
-    /// The number of tiles, 1 to 65,536.
+    /// The number of tiles.
     pub fn tiles(&self) -> u64 {
         self.tiles
     }
 
-    /// The most children that a box has, 2 to 1,024.
+    /// The most children that a box has.
     pub fn fanout(&self) -> u64 {
         self.fanout
     }

@@ -65,12 +65,13 @@ fn window(kinds: &[Kind], ends: &[u8]) -> Vec<Range> {
 
 /// A range as the answer of a footer has it.
 fn places(side: &Range) -> [u64; 3] {
-    match *side {
-        Range::Int32(low, high) => [0, low as u32 as u64, high as u32 as u64],
-        Range::Int64(low, high) => [1, low as u64, high as u64],
-        Range::Float32(low, high) => [2, low.to_bits() as u64, high.to_bits() as u64],
-        Range::Float64(low, high) => [3, low.to_bits(), high.to_bits()],
-    }
+    let [low, high] = match *side {
+        Range::Int32(low, high) => [low, high].map(|x| x as u32 as u64),
+        Range::Int64(low, high) => [low, high].map(|x| x as u64),
+        Range::Float32(low, high) => [low, high].map(|x| x.to_bits() as u64),
+        Range::Float64(low, high) => [low, high].map(|x| x.to_bits()),
+    };
+    [side.kind() as u64, low, high]
 }
 
 fn footer_numbers(f: &Footer, fields: u64, bytes: &[u8], tile: u64) -> Vec<u64> {
@@ -78,13 +79,15 @@ fn footer_numbers(f: &Footer, fields: u64, bytes: &[u8], tile: u64) -> Vec<u64> 
     numbers.extend([f.tiles(), f.last_cells(), f.timestamps().into(), f.deletes().into()]);
     numbers.extend([f.rtree(), f.fragment(), f.conditions(), f.length()]);
     let domain = f.domain();
-    numbers.extend((0..4).flat_map(|i| domain.get(i).map_or([1, 0, 0], places)));
+    let no_side = places(&Range::Int64(0, 0));
+    let dimensions = Description::MOST_DIMENSIONS as usize;
+    numbers.extend((0..dimensions).flat_map(|i| domain.get(i).map_or(no_side, places)));
     let mut lists = vec![f.file_sizes(), f.file_var_sizes(), f.file_validity_sizes()];
     lists.extend([f.tile_offsets(), f.var_offsets(), f.var_sizes(), f.validity()]);
     lists.extend([f.mins(), f.maxes(), f.sums(), f.null_counts()]);
     for list in lists {
         assert_eq!(list.len() as u64, fields);
-        numbers.extend((0..64).map(|i| list.get(i).copied().unwrap_or(0)));
+        numbers.extend((0..Description::MOST_FIELDS as usize).map(|i| list.get(i).copied().unwrap_or(0)));
     }
     let name = f.schema_name();
     numbers.extend([name.as_ptr() as u64 - bytes.as_ptr() as u64, name.len() as u64]);

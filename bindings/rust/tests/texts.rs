@@ -5,7 +5,7 @@
 mod places;
 
 use std::collections::BTreeMap;
-use tussockbell::{Kind, Refused, Which};
+use tussockbell::{Description, Kind, Refused, Which};
 
 const HEADER: &str = include_str!("../../../include/tussockbell.h");
 
@@ -31,6 +31,10 @@ fn is_refusal(name: &str) -> bool {
     name.starts_with("REFUSED_") || name == "NOT_REFUSED"
 }
 
+fn is_limit(name: &str) -> bool {
+    name.starts_with("LEAST_") || name.starts_with("MOST_")
+}
+
 #[test]
 fn kinds_are_the_headers() {
     let kinds = [
@@ -41,7 +45,8 @@ fn kinds_are_the_headers() {
     ];
     assert_eq!(part(is_kind), BTreeMap::from(kinds));
     for number in 0..=u8::MAX {
-        assert_eq!(Kind::try_from(number).ok().map(|kind| kind as u8), (number < 4).then_some(number));
+        let known = kinds.iter().any(|(_, kind)| *kind == number.into());
+        assert_eq!(Kind::try_from(number).ok().map(|kind| kind as u8), known.then_some(number));
     }
 }
 
@@ -49,8 +54,20 @@ fn kinds_are_the_headers() {
 fn places_are_the_headers() {
     let mut places: BTreeMap<_, _> = places::ALL.iter().map(|(name, place)| (*name, *place as u64)).collect();
     // a domain's kinds are the description's, and a list's length is the description's number of fields
-    places.extend([("DOMAIN_KIND", 0), ("FOOTER_LIST_PLACES", 64)]);
-    assert_eq!(part(|name| !is_kind(name) && !is_refusal(name)), places);
+    places.extend([("DOMAIN_KIND", 0), ("FOOTER_LIST_PLACES", Description::MOST_FIELDS)]);
+    assert_eq!(part(|name| !is_kind(name) && !is_refusal(name) && !is_limit(name)), places);
+}
+
+#[test]
+fn limits_are_the_headers() {
+    macro_rules! named {
+        ($($name:ident)*) => { [$((stringify!($name), Description::$name)),*] };
+    }
+    let limits = named!(
+        LEAST_DIMENSIONS MOST_DIMENSIONS LEAST_FIELDS MOST_FIELDS LEAST_CAPACITY MOST_CAPACITY LEAST_VERSION MOST_VERSION
+        LEAST_NAME MOST_NAME LEAST_TILES MOST_TILES LEAST_FANOUT MOST_FANOUT
+    );
+    assert_eq!(part(is_limit), BTreeMap::from(limits));
 }
 
 #[test]
@@ -76,13 +93,13 @@ fn refusal_texts_are_the_headers() {
         let name = case.trim().strip_prefix("case TUSSOCKBELL_").and_then(|rest| rest.strip_suffix(':'));
         match (name, quoted(text)) {
             (Some(name), Some(text)) => _ = texts.insert(numbers[name], text),
-            (None, Some(text)) if case.trim() == "default:" => _ = texts.insert(21, text),
+            (None, Some(text)) if case.trim() == "default:" => _ = texts.insert(u64::MAX, text),
             _ => (),
         }
     }
     let own = |number| Refused { number, place: 0, which: Which::First }.text();
-    assert_eq!(texts, (0..=21).map(|number| (number, own(number))).collect());
-    assert_eq!(own(u64::MAX), texts[&21]);
+    let refusals = part(is_refusal).into_values();
+    assert_eq!(texts, refusals.chain([u64::MAX]).map(|number| (number, own(number))).collect());
 }
 
 #[test]

@@ -1,8 +1,9 @@
--- Going through checks as code does, past one that says nothing or to a stop at one that refuses (`past`, `stop`, `turn`);
--- and what it means that none refused (`clear`).
+-- Going through checks as code does, past one that says nothing or to a stop at one that refuses (`past`, `stop`,
+-- `turn`); what it means that none refused (`clear`); and that the last of a list has the last word, be it a check, a
+-- list or a run (`last`).
 -- Assumes nothing.
 use mathlib.Core.Path.{_≡_, refl, ap, sym, _∙_}
-use mathlib.Core.Bool.{Bool, true, false}
+use mathlib.Core.Bool.{Bool, true, false, cond}
 use mathlib.Core.List.{List, [], _∷_, _++_}
 use Prim.Native.Nat.{ℕ, zero, suc, _+_, _-_, _≤_, _<_}
 use native.Mathlib.Nat.{add-zero, zero-add, suc-add, add-suc}
@@ -11,7 +12,7 @@ use lib.Dec.{eqb}
 use borrow.Author.Tests.{eq-eqb, ne-eqb, eqb-true, eqb-false}
 use Rattle.answers.specs.declared.Refusal.{Refusal}
 use Rattle.answers.specs.Refusals.{refusal, none}
-use Rattle.answers.specs.Runs.{pick, over}
+use Rattle.answers.specs.Runs.{over}
 use Rattle.answers.specs.Checks.{check, otherwise, first, each}
 use Rattle.answers.proofs.Runs.{Each, over-done, over-turn, over-left, over-says}
 
@@ -25,7 +26,7 @@ halt r s h = rw (ne-eqb (r .number) 0 h)
 pub both-clear : (r s : Refusal) → otherwise r s .number ≡ 0 → (r .number ≡ 0) × (s .number ≡ 0)
 both-clear r s h = go (eqb (r .number) 0) refl h
   where
-    go : (t : Bool) → eqb (r .number) 0 ≡ t → pick t s r .number ≡ 0 → (r .number ≡ 0) × (s .number ≡ 0)
+    go : (t : Bool) → eqb (r .number) 0 ≡ t → cond t s r .number ≡ 0 → (r .number ≡ 0) × (s .number ≡ 0)
     go true e h = (eqb-true (r .number) 0 e, h)
     go false e h = absurd (eqb-false (r .number) 0 e h)
 
@@ -33,7 +34,7 @@ pub regroup : (r s t : Refusal) → otherwise (otherwise r s) t ≡ otherwise r 
 regroup r s t = go (eqb (r .number) 0) refl
   where
     go : (b : Bool) → eqb (r .number) 0 ≡ b
-        → pick (eqb (pick b s r .number) 0) t (pick b s r) ≡ pick b (otherwise s t) r
+        → cond (eqb (cond b s r .number) 0) t (cond b s r) ≡ cond b (otherwise s t) r
     go true e = refl
     go false e = rw e
 
@@ -67,10 +68,30 @@ pub check-clear : (t : Bool) (number place : ℕ) → 0 < number → check t num
 check-clear true number place some h = absurd (omega arith)
 check-clear false number place some h = refl
 
--- the last check of a list
-pub last-check : (t : Bool) (number place : ℕ) → 0 < number → first (check t number place ∷ []) ≡ check t number place
-last-check true number place some = stop-check true number place [] refl some
-last-check false number place some = past-check false number place [] refl ∙ ended
+-- what refuses nothing says `none`, so the last of a list has the last word
+both-none : (r s : Refusal) → (s .number ≡ 0 → s ≡ none) → otherwise r s .number ≡ 0 → otherwise r s ≡ none
+both-none r s h e = let both = both-clear r s e in go-on r s (both .0) ∙ h (both .1)
+
+pub check-none : (t : Bool) (number place : ℕ) → 0 < number → check t number place .number ≡ 0 → check t number place ≡ none
+check-none t number place some e = rw (check-clear t number place some e)
+
+pub first-none : (rs : List Refusal) → first rs .number ≡ 0 → first rs ≡ none
+unfolding first
+first-none [] e = refl
+first-none (r ∷ rs) e = both-none r (first rs) (first-none rs) e
+
+pub each-none : (g : ℕ → Refusal) (k m : ℕ) → each g k m .number ≡ 0 → each g k m ≡ none
+unfolding over
+each-none g k zero e = refl
+each-none g k (suc m) e = both-none (g k) (each g (suc k) m) (each-none g (suc k) m) e
+
+pub last : (r : Refusal) → (r .number ≡ 0 → r ≡ none) → first (r ∷ []) ≡ r
+unfolding first
+last r h = go (eqb (r .number) 0) refl
+  where
+    go : (t : Bool) → eqb (r .number) 0 ≡ t → cond t none r ≡ r
+    go true e = sym (h (eqb-true (r .number) 0 e))
+    go false e = refl
 
 -- two lists, one after the other
 pub first-append : (rs ss : List Refusal) → first (rs ++ ss) ≡ otherwise (first rs) (first ss)
@@ -89,7 +110,7 @@ join-next e p q = e ∙ rw (p, q)
 pub joined-first : (r : Refusal) (ss : List Refusal) (t : Bool) (number place : ℕ) → 0 < number
     → joined r (ss ++ (check t number place ∷ [])) ≡ first (r ∷ ss ++ (check t number place ∷ []))
 unfolding first
-joined-first r [] t number place some = ap (otherwise r) (sym (last-check t number place some))
+joined-first r [] t number place some = ap (otherwise r) (sym (last _ (check-none t number place some)))
 joined-first r (s ∷ ss) t number place some =
     joined-first (otherwise r s) ss t number place some ∙ regroup r s (first (ss ++ (check t number place ∷ [])))
 
@@ -122,7 +143,7 @@ all-clear g k (suc m) p =
 pub either : (P : Refusal → Type 0) (r s : Refusal) → P r → P s → P (otherwise r s)
 either P r s p q = go (eqb (r .number) 0)
   where
-    go : (t : Bool) → P (pick t s r)
+    go : (t : Bool) → P (cond t s r)
     go true = q
     go false = p
 

@@ -1,20 +1,20 @@
 -- An order of checks as data: a list of what each check says, of which the first that refuses decides.
 -- Assumes nothing.
 use Prim.Native.Nat.{ℕ}
-use mathlib.Core.Bool.{Bool}
+use mathlib.Core.Bool.{Bool, cond}
 use mathlib.Core.List.{List, [], _∷_}
 use lib.Dec.{eqb}
 use Rattle.answers.specs.declared.Refusal.{Refusal}
 use Rattle.answers.specs.Refusals.{refusal, none}
-use Rattle.answers.specs.Runs.{pick, over}
+use Rattle.answers.specs.Runs.{over}
 
 -- what one check says: where the test is true, a refusal with this number at this place
 abbrev pub check : Bool → ℕ → ℕ → Refusal
-check test number place = pick test (refusal number place) none
+check test number place = cond test (refusal number place) none
 
 -- the first of two that refuses
 abbrev pub otherwise : Refusal → Refusal → Refusal
-otherwise r s = pick (eqb (r .number) 0) s r
+otherwise r s = cond (eqb (r .number) 0) s r
 
 -- the first of a list that refuses
 unfoldable pub first : List Refusal → Refusal

@@ -1,4 +1,4 @@
--- The refusal numbers, and a refusal's number and place.
+-- The refusal numbers in their order, each under the words of the rules; and a refusal's number and place.
 -- Assumes nothing.
 use Prim.Native.Nat.{ℕ}
 use Rattle.answers.specs.declared.Refusal.{Refusal}
@@ -50,7 +50,7 @@ reversed = 9
 abbrev pub tiles : ℕ
 tiles = 10
 
--- last tile's cells not 1 to C
+-- last tile's cells not 1 to the capacity
 abbrev pub lastCells : ℕ
 lastCells = 11
 
@@ -74,7 +74,7 @@ outsideParent = 15
 abbrev pub outsideDomain : ℕ
 outsideDomain = 16
 
--- a list's count is not n
+-- a list's count is not the number of tiles
 abbrev pub count : ℕ
 count = 17
 
@@ -82,10 +82,10 @@ count = 17
 abbrev pub tileOffsets : ℕ
 tileOffsets = 18
 
--- query's dimension number or a kind differs
+-- the window's dimension number or a kind differs
 abbrev pub window : ℕ
 window = 19
 
 -- tile sizes add up past 2^64 - 1
-abbrev pub sum : ℕ
-sum = 20
+abbrev pub sizesSum : ℕ
+sizesSum = 20

@@ -1,14 +1,9 @@
 -- What a run of numbers k, k + 1, .. comes to when something is worked out for each and joined in that order.
 -- Assumes nothing.
 use Prim.Native.Nat.{ℕ, zero, suc, _+_}
-use mathlib.Core.Bool.{Bool, true, false}
+use mathlib.Core.Bool.{cond}
 use mathlib.Core.List.{List, [], _∷_, _++_}
 use lib.Dec.{ltb}
-
--- one of two values by a test
-abbrev pub pick : {A : Type 0} → Bool → A → A → A
-pick true a b = a
-pick false a b = b
 
 -- g k, g (k + 1), .. , m of them, joined in that order
 unfoldable pub over : {A : Type 0} → (A → A → A) → A → (ℕ → A) → ℕ → ℕ → A
@@ -23,4 +18,4 @@ join = over _++_ []
 
 -- a list of so many places: g of each of the first m, and z in the others
 abbrev pub filled : {A : Type 0} → (ℕ → A) → A → ℕ → ℕ → List A
-filled g z m size = join (λ i. pick (ltb i m) (g i) z ∷ []) 0 size
+filled g z m size = join (λ i. cond (ltb i m) (g i) z ∷ []) 0 size

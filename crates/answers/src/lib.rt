@@ -49,7 +49,7 @@ impl Refusal {
 
     pub const WINDOW: u64 = 19;
 
-    pub const SUM: u64 = 20;
+    pub const SIZES_SUM: u64 = 20;
 
     pub fn none() -> Refusal
         ensures { λ r. ⌜ r ≡ none ⌝ }

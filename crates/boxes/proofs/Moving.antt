@@ -2,29 +2,30 @@
 -- goes over from each range to all of them.
 -- Assumes nothing.
 use mathlib.Core.Path.{_≡_, refl, sym, _∙_}
-use mathlib.Core.Bool.{Bool, true, false}
+use mathlib.Core.Bool.{Bool, true, false, cond}
 use mathlib.Core.List.{List}
-use Prim.Native.Nat.{ℕ, _+_}
+use Prim.Native.Nat.{ℕ, _+_, _≤_}
+use native.Mathlib.Omega.{arith}
 use native.Mathlib.Nat.{zero-add}
 use lib.Dec.{eqb}
 use borrow.Author.Tests.{eq-eqb, ne-eqb, eqb-false}
 use Rattle.answers.specs.Refusals.{refusal, none}
-use Rattle.answers.specs.Runs.{pick}
 use Rattle.answers.specs.Checks.{otherwise}
 use Rattle.answers.specs.declared.Refusal.{Refusal}
 use Rattle.answers.proofs.Runs.{over-map, over-ext}
-use Rattle.answers.proofs.Checks.{each-clear, all-clear}
-use Rattle.boxes.specs.declared.Dimension.{Dimension}
-use Rattle.boxes.specs.declared.Judged.{Judged}
-use Rattle.boxes.specs.declared.Judged.the-variants.{Sound, NotANumber, Reversed}
-use Rattle.boxes.specs.Description.{kindAt, sideStart}
-use Rattle.boxes.specs.Ranges.{judgedAt, judgedRefusal}
+use Rattle.answers.proofs.Checks.{each-clear, all-clear, each-has}
+use Rattle.description.specs.declared.Dimension.{Dimension}
+use Rattle.ranges.specs.declared.Verdict.{Verdict}
+use Rattle.ranges.specs.declared.Verdict.the-variants.{Sound, NotANumber, Reversed}
+use Rattle.description.specs.Description.{kindAt, sideStart}
+use Rattle.ranges.specs.Ranges.{verdictAt, storedRefusal}
 use Rattle.boxes.specs.Boxes.{rangesRefusal}
+use Rattle.description.proofs.Sides.{start-up}
 use Rattle.boxes.proofs.Walking.{toldAt}
 
 -- the same number, at a place moved by a start; what does not refuse stays
 abbrev pub moved : ℕ → Refusal → Refusal
-moved start r = pick (eqb (r .number) 0) r (refusal (r .number) (start + r .place))
+moved start r = cond (eqb (r .number) 0) r (refusal (r .number) (start + r .place))
 
 module _ (start : ℕ) where
   pub moved-clear : (r : Refusal) → r .number ≡ 0 → moved start r ≡ r
@@ -40,13 +41,13 @@ module _ (start : ℕ) where
       go true e = rw e (rw e)
       go false e = rw e (rw e)
 
-  moved-told : (j : Judged) (place : ℕ) → moved start (judgedRefusal j (0 + place)) ≡ judgedRefusal j (start + place)
+  moved-told : (j : Verdict) (place : ℕ) → moved start (storedRefusal j (0 + place)) ≡ storedRefusal j (start + place)
   moved-told (Sound r) place = refl
   moved-told NotANumber place = rw zero-add
   moved-told Reversed place = rw zero-add
 
 -- a range that is not refused says nothing at all
-told-clear : (j : Judged) (place : ℕ) → judgedRefusal j place .number ≡ 0 → judgedRefusal j place ≡ none
+told-clear : (j : Verdict) (place : ℕ) → storedRefusal j place .number ≡ 0 → storedRefusal j place ≡ none
 told-clear (Sound r) place h = refl
 told-clear NotANumber place h = absurd (eqb-false 8 0 refl h)
 told-clear Reversed place h = absurd (eqb-false 9 0 refl h)
@@ -57,11 +58,23 @@ module _ (kinds : List Dimension) (m : ℕ) (bytes : List ℕ) (start : ℕ) whe
   ranges-moved =
       sym (
       over-map otherwise none otherwise none (moved start) refl (moved-otherwise start) (toldAt kinds bytes 0) 0 m
-      ∙ over-ext otherwise none _ _ 0 m (λ i a b. moved-told start (judgedAt (kindAt kinds i) bytes (sideStart kinds i)) (sideStart kinds i))
+      ∙ over-ext otherwise none _ _ 0 m (λ i a b. moved-told start (verdictAt (kindAt kinds i) bytes (sideStart kinds i)) (sideStart kinds i))
       )
 
   pub ranges-none : rangesRefusal kinds m bytes start .number ≡ 0 → rangesRefusal kinds m bytes start ≡ none
   unfolding rangesRefusal
   ranges-none h =
       all-clear (toldAt kinds bytes start) 0 m
-      (λ i a b. told-clear (judgedAt (kindAt kinds i) bytes (sideStart kinds i)) (start + sideStart kinds i) (each-clear (toldAt kinds bytes start) 0 m h i a b))
+      (λ i a b. told-clear (verdictAt (kindAt kinds i) bytes (sideStart kinds i)) (start + sideStart kinds i) (each-clear (toldAt kinds bytes start) 0 m h i a b))
+
+-- a fault of the ranges is placed before the box's end
+told-before : (v : Verdict) (place most : ℕ) → place ≤ most → storedRefusal v place .place ≤ most
+told-before (Sound r) place most h = omega arith
+told-before NotANumber place most h = h
+told-before Reversed place most h = h
+
+pub fault-before : (kinds : List Dimension) (m : ℕ) (bytes : List ℕ) → rangesRefusal kinds m bytes 0 .place ≤ sideStart kinds m
+unfolding rangesRefusal
+fault-before kinds m bytes =
+    each-has (λ r. r .place ≤ sideStart kinds m) (toldAt kinds bytes 0) 0 m (omega arith)
+    (λ i a l. told-before (verdictAt (kindAt kinds i) bytes (sideStart kinds i)) _ _ (omega (arith, start-up kinds i m (omega arith))))

@@ -1,96 +1,144 @@
--- A box is without a fault and inside another where its range in each dimension is sound and inside the other's; where that fails in some
--- dimension, either the ranges have a fault or the box is not inside.
+-- A box is without a fault and inside another where each of its dimensions is sound and inside the other's; where that fails, either the ranges
+-- have a fault or the box is not inside. And a row of boxes, as a loop goes through it: the boxes before a place said nothing.
 -- Assumes nothing.
-use mathlib.Core.Path.{_≡_, refl, sym, ap, _∙_, subst}
+use mathlib.Core.Path.{_≡_, refl, sym, ap, _∙_}
 use mathlib.Core.Bool.{Bool, true, false, _&&_, true≢false}
 use mathlib.Core.List.{List}
-use Prim.Native.Nat.{ℕ, _+_, _≤_, _<_}
+use mathlib.Core.Logic.{_↔_}
+use Prim.Native.Nat.{ℕ, suc, _+_, _-_, _*_, _/_, _≤_, _<_}
+use native.Mathlib.Nat.{le-div-iff-mul-le, div-lt-iff-lt-mul, div-zero, suc-mul}
 use native.Mathlib.Decide.{decLt}
+use native.Mathlib.Numerals.{add-one}
 use native.Mathlib.Omega.{arith}
-use lib.ListN.{getD}
+use lib.ListN.{length, getD, take, drop}
 use Rattle.answers.specs.Refusals.{none, refusal}
 use Rattle.answers.specs.Checks.{otherwise, each}
 use Rattle.answers.specs.declared.Refusal.{Refusal}
-use Rattle.answers.proofs.Runs.{Each}
-use Rattle.answers.proofs.Checks.{halt, each-clear, all-clear}
-use Rattle.boxes.specs.declared.Kind.{Kind}
-use Rattle.boxes.specs.declared.Range.{Range}
-use Rattle.boxes.specs.declared.Judged.{Judged}
-use Rattle.boxes.specs.declared.Dimension.{Dimension}
-use Rattle.boxes.specs.Kinds.{isNan, atMost}
-use Rattle.boxes.specs.Description.{kindAt, sideStart}
-use Rattle.boxes.specs.Ranges.{endsAt, rangeAt, judged, judgedRefusal, inside, within}
-use Rattle.boxes.specs.Boxes.{sideAt, boxOf, rangesRefusal, boxInside, insideRefusal}
-use Rattle.boxes.proofs.Tests.{both}
-use Rattle.boxes.proofs.Judging.{ends, sound, nan-low, nan-high, reversed}
-use Rattle.boxes.proofs.Comparing.{same-kind}
+use Rattle.answers.proofs.Runs.{Each, over-start}
+use Rattle.answers.proofs.Checks.{go-on, halt, each-clear, all-clear, none-left, past-left, stop-left}
+use Rattle.description.specs.declared.Dimension.{Dimension}
+use Rattle.description.specs.Description.{kindAt, sideStart}
+use Rattle.description.proofs.Tests.{both}
+use Rattle.ranges.specs.declared.Verdict.{Verdict}
+use Rattle.ranges.specs.declared.Verdict.the-variants.{Sound, NotANumber, Reversed}
+use Rattle.ranges.specs.Ranges.{verdictAt, storedRefusal, inside}
+use Rattle.boxes.specs.Boxes.{all, sideAt, rangesRefusal, boxInside, boxRefusal}
+use Rattle.boxes.specs.Code.Carried.{endsIn}
+use Rattle.boxes.specs.Code.Row.{isSound, soundInside, rowBox, rowRefusal}
 use Rattle.boxes.proofs.Walking.{toldAt}
-use Rattle.boxes.proofs.Boxes.{all-says, all-when, inside-read}
+use Rattle.boxes.proofs.Boxes.{all-says, all-when}
+use Rattle.boxes.proofs.Carrying.{carried-again}
 
--- of one kind, by three comparisons
-pub within-ends : (k : Kind) (a b c d : ℕ) {p q r x y : Bool} → p ≡ atMost k a b → q ≡ atMost k c a → r ≡ atMost k b d → y ≡ (q && r) → x ≡ (p && y)
-    → x ≡ within (ends k a b) (ends k c d)
-unfolding inside
-within-ends k a b c d e f g h l = l ∙ rw (h, same-kind k, e, f, g)
+-- a verdict says nothing where it is sound, and only there
+pub sound-none : (v : Verdict) (place : ℕ) → isSound v ≡ true → storedRefusal v place ≡ none
+sound-none (Sound r) place h = refl
+sound-none NotANumber place h = absurd (true≢false (sym h))
+sound-none Reversed place h = absurd (true≢false (sym h))
 
--- what is told of a range says nothing where its ends are in order, and only there
-module _ (k : Kind) (a b : ℕ) (r : Range) (place : ℕ) where
-  told-sound : atMost k a b ≡ true → judgedRefusal (judged (ends k a b) r) place ≡ none
-  told-sound h = ap (λ (j : Judged). judgedRefusal j place) (sym (sound k a b r h))
+pub none-sound : (v : Verdict) (place : ℕ) → storedRefusal v place .number ≡ 0 → isSound v ≡ true
+none-sound (Sound r) place h = refl
+none-sound NotANumber place h = absurd (omega arith)
+none-sound Reversed place h = absurd (omega arith)
 
-  told-clear : judgedRefusal (judged (ends k a b) r) place .number ≡ 0 → atMost k a b ≡ true
-  told-clear h = go (isNan k a) refl (isNan k b) refl (atMost k a b) refl
+module _ (kinds : List Dimension) (m : ℕ) (bytes outer : List ℕ) (byte : (i : ℕ) → getD outer i 0 < 256) (few : m ≤ 4) (number start : ℕ) where
+  abbrev ends : List ℕ
+  ends = endsIn kinds m outer
+
+  abbrev judged : ℕ → Verdict
+  judged i = verdictAt (kindAt kinds i) bytes (sideStart kinds i)
+
+  -- what is carried of the other box says what its bytes say
+  parts : (i : ℕ) → i < m → soundInside kinds bytes ends i ≡ (isSound (judged i) && inside (sideAt kinds bytes i) (sideAt kinds outer i))
+  parts i l = rw (carried-again kinds m outer byte i l few)
+
+  pub within-clear : all (soundInside kinds bytes ends) 0 m ≡ true → boxRefusal kinds m bytes outer number start ≡ none
+  unfolding boxRefusal rangesRefusal boxInside
+  within-clear h =
+      let each-part : Each (λ i. (isSound (judged i) ≡ true) × (inside (sideAt kinds bytes i) (sideAt kinds outer i) ≡ true)) 0 m =
+      λ i a l. both (isSound (judged i)) _ (sym (parts i (omega arith)) ∙ all-says _ 0 m h i a l) in
+      let ranges : each (toldAt kinds bytes start) 0 m ≡ none =
+      all-clear (toldAt kinds bytes start) 0 m (λ i a l. sound-none (judged i) (start + sideStart kinds i) (each-part i a l .0)) in
+      let lies : all (λ i. inside (sideAt kinds bytes i) (sideAt kinds outer i)) 0 m ≡ true = all-when _ 0 m (λ i a l. each-part i a l .1) in
+      rw (ranges, lies)
+
+  pub within-fault : all (soundInside kinds bytes ends) 0 m ≡ false
+      → boxRefusal kinds m bytes outer number start ≡ otherwise (rangesRefusal kinds m bytes start) (refusal number start)
+  unfolding boxRefusal rangesRefusal boxInside
+  within-fault h = go (decLt 0 (rangesRefusal kinds m bytes start .number))
     where
-      go : (s : Bool) → isNan k a ≡ s → (t : Bool) → isNan k b ≡ t → (u : Bool) → atMost k a b ≡ u → atMost k a b ≡ true
-      go s e t f true g = g
-      go true e t f false g = absurd (omega (arith, rw (← (nan-low k a b r e)) at h))
-      go false e true f false g = absurd (omega (arith, rw (← (nan-high k a b r f)) at h))
-      go false e false f false g = absurd (omega (arith, rw (← (reversed k a b r e f g)) at h))
+      apart : rangesRefusal kinds m bytes start .number ≡ 0 → (t : Bool) → boxInside kinds m bytes outer ≡ t → boxInside kinds m bytes outer ≡ false
+      apart clear true e =
+          absurd (
+          true≢false
+          (sym (all-when (soundInside kinds bytes ends) 0 m
+          (λ i a l.
+          parts i (omega arith)
+          ∙ rw (none-sound (judged i) _ (each-clear (toldAt kinds bytes start) 0 m clear i a l), all-says _ 0 m e i a l)))
+          ∙ h)
+          )
+      apart clear false e = e
 
--- dimension i of two boxes in their bytes
-abbrev pub withinAt : List Dimension → List ℕ → List ℕ → ℕ → Bool
-withinAt kinds bytes outer i = within (sideAt kinds bytes i) (sideAt kinds outer i)
+      go : Dec (0 < rangesRefusal kinds m bytes start .number)
+          → boxRefusal kinds m bytes outer number start ≡ otherwise (rangesRefusal kinds m bytes start) (refusal number start)
+      go (yes z) =
+          let some : rangesRefusal kinds m bytes start .number ≡ 0 → ⊥ = λ e. omega arith in
+          halt (rangesRefusal kinds m bytes start) _ some ∙ sym (halt (rangesRefusal kinds m bytes start) _ some)
+      go (no z) =
+          let clear : rangesRefusal kinds m bytes start .number ≡ 0 = omega arith in
+          rw (apart clear (boxInside kinds m bytes outer) refl)
 
--- as a loop goes on past i
-pub each-more : (P : ℕ → Type 0) (i : ℕ) → Each P 0 i → P i → Each P 0 (i + 1)
-each-more P i h p j x y = go (decLt j i)
-  where
-    go : Dec (j < i) → P j
-    go (yes l) = h j x (omega arith)
-    go (no l) =
-        let same : i ≡ j = omega arith in
-        subst P same p
+pub no-row : (kinds : List Dimension) (m : ℕ) (row outer : List ℕ) (number : ℕ) → sideStart kinds m ≡ 0 → none ≡ rowRefusal kinds m row outer number
+unfolding rowRefusal
+no-row kinds m row outer number e = sym (none-left _ 0 _ (rw (e, div-zero) (omega arith)))
 
-module _ (kinds : List Dimension) (m : ℕ) (bytes outer : List ℕ) (number : ℕ) where
-  abbrev said : Refusal
-  said = insideRefusal kinds m bytes (boxOf kinds m outer) number
+-- the boxes of a row before the place `at` said nothing
+pub record RowAt (kinds : List Dimension) (m : ℕ) (row outer : List ℕ) (number at : ℕ) : Type 0 where
+  pub index : ℕ
+  pub place : at ≡ index * sideStart kinds m
+  pub there : at ≤ length row
+  pub same : rowRefusal kinds m row outer number
+      ≡ each (rowBox kinds m row outer number) index (length row / sideStart kinds m - index)
 
-  module _ (byte : (i : ℕ) → getD outer i 0 < 256) (few : m ≤ 4) where
-    pub within-clear : Each (λ i. withinAt kinds bytes outer i ≡ true) 0 m → none ≡ said
-    unfolding insideRefusal rangesRefusal boxInside endsAt
-    within-clear h =
-        let parts : (i : ℕ) → withinAt kinds bytes outer i ≡ true → _ =
-        λ i. both (atMost (kindAt kinds i) (sideAt kinds bytes i .low) (sideAt kinds bytes i .high)) (inside (sideAt kinds bytes i) (sideAt kinds outer i)) in
-        let ranges : each (toldAt kinds bytes 0) 0 m ≡ none =
-        all-clear (toldAt kinds bytes 0) 0 m
-        (λ i x y. told-sound (kindAt kinds i) _ _ (rangeAt (kindAt kinds i) bytes (sideStart kinds i)) (0 + sideStart kinds i) (parts i (h i x y) .0)) in
-        let lies : boxInside kinds m bytes outer ≡ true = all-when _ 0 m (λ i x y. parts i (h i x y) .1) in
-        rw (ranges, inside-read kinds m bytes outer byte few, lies)
+module _ {kinds : List Dimension} {m : ℕ} {row outer : List ℕ} {number : ℕ} where
+  pub row-start : RowAt kinds m row outer number 0
+  unfolding rowRefusal
+  row-start = record {
+    index = 0;
+    place = omega arith;
+    there = omega arith;
+    same = over-start otherwise none (rowBox kinds m row outer number) _;
+  }
 
-    pub within-fault : (i : ℕ) → i < m → withinAt kinds bytes outer i ≡ false → otherwise (rangesRefusal kinds m bytes 0) (refusal number 0) ≡ said
-    unfolding insideRefusal rangesRefusal boxInside endsAt
-    within-fault i l h = go (decLt 0 (rangesRefusal kinds m bytes 0 .number))
-      where
-        out : inside (sideAt kinds bytes i) (sideAt kinds outer i) ≡ false → (u : Bool) → boxInside kinds m bytes outer ≡ u → boxInside kinds m bytes outer ≡ false
-        out e true f = absurd (true≢false (sym (all-says _ 0 m f i (omega arith) (omega arith)) ∙ e))
-        out e false f = f
+  module _ {at : ℕ} (r : RowAt kinds m row outer number at) (some : 0 < sideStart kinds m) where
+    abbrev b : ℕ
+    b = sideStart kinds m
 
-        go : Dec (0 < rangesRefusal kinds m bytes 0 .number) → otherwise (rangesRefusal kinds m bytes 0) (refusal number 0) ≡ said
-        go (yes z) =
-            let some : rangesRefusal kinds m bytes 0 .number ≡ 0 → ⊥ = λ e. omega arith in
-            halt (rangesRefusal kinds m bytes 0) _ some ∙ sym (halt (rangesRefusal kinds m bytes 0) _ some)
-        go (no z) =
-            let clear = each-clear (toldAt kinds bytes 0) 0 m (omega arith) i (omega arith) (omega arith) in
-            let ordered = told-clear (kindAt kinds i) _ _ (rangeAt (kindAt kinds i) bytes (sideStart kinds i)) _ clear in
-            let apart : inside (sideAt kinds bytes i) (sideAt kinds outer i) ≡ false = rw ordered at h in
-            rw (inside-read kinds m bytes outer byte few, out apart (boxInside kinds m bytes outer) refl)
+    pub row-done : length row - at < b → none ≡ rowRefusal kinds m row outer number
+    row-done h =
+        let end : length row / b < suc (r .index) =
+        div-lt-iff-lt-mul some .1 (rw suc-mul (omega (arith, r .place, r .there))) in
+        sym (r .same ∙ none-left _ _ _ (omega arith))
+
+    module _ (more : b ≤ length row - at) where
+      next : r .index < length row / b
+      next = le-div-iff-mul-le some .1 (rw suc-mul (omega (arith, r .place, r .there)))
+
+      -- the box here, as it is lent
+      abbrev lent : List ℕ
+      lent = take (at + b - at) (drop at row)
+
+      here : boxRefusal kinds m lent outer number at ≡ rowBox kinds m row outer number (r .index)
+      here =
+          let size : at + b - at ≡ b = omega arith in
+          rw (size, r .place)
+
+      pub row-stop : {s : Refusal} → s ≡ boxRefusal kinds m lent outer number at → (s .number ≡ 0 → ⊥) → s ≡ rowRefusal kinds m row outer number
+      row-stop e h = sym (r .same ∙ stop-left (rowBox kinds m row outer number) (r .index) _ _ next (e ∙ here) h)
+
+      pub row-on : {s : Refusal} → s ≡ boxRefusal kinds m lent outer number at → s .number ≡ 0 → RowAt kinds m row outer number (at + b)
+      row-on e h = record {
+        index = r .index + 1;
+        place = rw (r .place) (omega arith);
+        there = omega (arith, r .there);
+        same = r .same ∙ past-left (rowBox kinds m row outer number) (r .index) _ _ next (e ∙ here) h;
+      }

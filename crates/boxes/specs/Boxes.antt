@@ -1,20 +1,20 @@
 -- A box is a range per dimension, one after the other.
 -- Assumes nothing.
 use Prim.Native.Nat.{ℕ, _+_}
-use mathlib.Core.Bool.{Bool, true, not, _&&_}
+use mathlib.Core.Bool.{Bool, true, not, _&&_, cond}
 use mathlib.Core.List.{List, [], _∷_}
 use lib.Dec.{ltb}
 use lib.IntN.{pos}
 use lib.ListN.{getD}
-use Rattle.answers.specs.Runs.{pick, over, join}
+use Rattle.answers.specs.Runs.{over, join}
 use Rattle.answers.specs.Checks.{check, otherwise, each}
 use Rattle.answers.specs.declared.Refusal.{Refusal}
-use Rattle.boxes.specs.declared.Range.{Range}
-use Rattle.boxes.specs.declared.Range.the-variants.{I32, I64}
-use Rattle.boxes.specs.declared.Dimension.{Dimension}
+use Rattle.description.specs.declared.Dimension.{Dimension}
+use Rattle.description.specs.Description.{kindAt, sideStart}
+use Rattle.ranges.specs.declared.Range.{Range}
+use Rattle.ranges.specs.declared.Range.the-variants.{I32, I64}
+use Rattle.ranges.specs.Ranges.{Ends, endsAt, endsOf, rangeAt, storedRefusal, verdictAt, inside, meets}
 use Rattle.boxes.specs.declared.Side.{Side}
-use Rattle.boxes.specs.Description.{kindAt, sideStart}
-use Rattle.boxes.specs.Ranges.{Ends, endsAt, endsOf, rangeAt, kindOf, judgedRefusal, judgedAt, inside, meets}
 
 -- an int64 range 0 to 0, which box places past D hold
 abbrev pub noSide : Side
@@ -24,7 +24,7 @@ noSide = record { range = I64 (pos 0) (pos 0) }
 abbrev pub noBox : List Side
 noBox = noSide ∷ noSide ∷ noSide ∷ noSide ∷ []
 
--- the range of a side
+-- the range of a side; four sides are never read past their end, where this has what the logic's own reading has
 abbrev pub rangeIn : List Side → ℕ → Range
 rangeIn sides i = getD sides i (record { range = I32 (pos 0) (pos 0) }) .range
 
@@ -40,31 +40,22 @@ module _ (kinds : List Dimension) where
   -- the box in its bytes, of m dimensions
   unfoldable pub boxOf : ℕ → List ℕ → List Side
   boxOf m bytes =
-      join (λ i. pick (ltb i m) (record { range = rangeAt (kindAt kinds i) bytes (sideStart kinds i) }) noSide ∷ []) 0 4
+      join (λ i. cond (ltb i m) (record { range = rangeAt (kindAt kinds i) bytes (sideStart kinds i) }) noSide ∷ []) 0 4
 
   -- the ranges of m dimensions in turn: 8 or 9 at the start of the range, in a box that starts at `start`
   unfoldable pub rangesRefusal : ℕ → List ℕ → ℕ → Refusal
   rangesRefusal m bytes start =
-      each (λ i. judgedRefusal (judgedAt (kindAt kinds i) bytes (sideStart kinds i)) (start + sideStart kinds i)) 0 m
+      each (λ i. storedRefusal (verdictAt (kindAt kinds i) bytes (sideStart kinds i)) (start + sideStart kinds i)) 0 m
 
   -- a box's bytes against another's: inside or equal in each of m dimensions
   unfoldable pub boxInside : ℕ → List ℕ → List ℕ → Bool
   boxInside m bytes outer = all (λ i. inside (sideAt bytes i) (sideAt outer i)) 0 m
 
-  -- the ranges in turn, and then whether the box lies inside another, with a number for that at its start
-  unfoldable pub insideRefusal : ℕ → List ℕ → List Side → ℕ → Refusal
-  insideRefusal m bytes outer number =
-      otherwise (rangesRefusal m bytes 0)
-      (check (not (all (λ i. inside (sideAt bytes i) (endsOf (rangeIn outer i))) 0 m)) number 0)
+  -- a stored box that starts at `start`: its ranges, and then whether it lies inside another, with a number for that
+  unfoldable pub boxRefusal : ℕ → List ℕ → List ℕ → ℕ → ℕ → Refusal
+  boxRefusal m bytes outer number start =
+      otherwise (rangesRefusal m bytes start) (check (not (boxInside m bytes outer)) number start)
 
   -- the box meets the query in each of m dimensions
   unfoldable pub boxMeets : ℕ → List ℕ → List Side → Bool
   boxMeets m bytes query = all (λ i. meets (sideAt bytes i) (endsOf (rangeIn query i))) 0 m
-
--- the kinds of a query's sides
-unfoldable pub windowKinds : List Side → List Dimension
-windowKinds query = join (λ i. record { kind = kindOf (rangeIn query i) } ∷ []) 0 4
-
--- a box's bytes meet a window, read in the window's kinds
-abbrev pub meetsWindow : List Side → ℕ → List ℕ → Bool
-meetsWindow query m bytes = boxMeets (windowKinds query) m bytes query

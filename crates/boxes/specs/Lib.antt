@@ -1,8 +1,4 @@
 -- The definitions that this crate's contracts, and every crate above, cite.
-pub mod Limits
-pub mod Kinds
-pub mod Description
-pub mod Ranges
 pub mod Boxes
-pub mod Layout
 pub mod Windows
+pub mod Code

@@ -7,20 +7,20 @@ use lib.Dec.{eqb}
 use Rattle.answers.specs.Refusals.{window}
 use Rattle.answers.specs.Checks.{check, first, each}
 use Rattle.answers.specs.declared.Refusal.{Refusal}
-use Rattle.boxes.specs.declared.Description.{Description}
+use Rattle.description.specs.declared.Description.{Description}
 use Rattle.boxes.specs.declared.Window.{Window}
-use Rattle.boxes.specs.declared.Kind.{Kind}
-use Rattle.boxes.specs.declared.Range.{Range}
-use Rattle.boxes.specs.Kinds.{sameKind}
-use Rattle.boxes.specs.Description.{kindAt, sidesOf}
-use Rattle.boxes.specs.Ranges.{endsOf, kindOf, judged, judgedRefusal}
+use Rattle.description.specs.declared.Kind.{Kind}
+use Rattle.ranges.specs.declared.Range.{Range}
+use Rattle.description.specs.Kinds.{sameKind}
+use Rattle.description.specs.Description.{kindAt, sidesOf}
+use Rattle.ranges.specs.Ranges.{endsOf, kindOf, verdict, askedRefusal}
 use Rattle.boxes.specs.Boxes.{rangeIn}
 
 -- of one dimension: 19 where the kind differs, then 8, 9
 unfoldable pub sideRefusal : Range → Kind → ℕ → Refusal
 sideRefusal r k place = first (
     check (not (sameKind (kindOf r) k)) window place
-    ∷ judgedRefusal (judged (endsOf r) r) place
+    ∷ askedRefusal (verdict (endsOf r) r) place
     ∷ []
     )
 

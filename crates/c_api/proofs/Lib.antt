@@ -1,5 +1,3 @@
 -- Laws that more than one proof of this crate cites, or that stand beside a long one.
 pub mod Storing
-pub mod Domain
-pub mod Placing
-pub mod Promised
+pub mod Answers

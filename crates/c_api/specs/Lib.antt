@@ -2,5 +2,3 @@
 pub mod Described
 pub mod Windows
 pub mod Places
-pub mod Footers
-pub mod Promises

@@ -1,49 +1,36 @@
--- A window that comes as kind numbers and bytes.
+-- A window that comes as Datatype numbers and bytes.
 -- Assumes nothing.
 use Prim.Native.Nat.{ℕ}
+use mathlib.Core.Bool.{cond}
 use mathlib.Core.List.{List, [], _∷_}
 use lib.IntN.{pos}
-use lib.ListN.{length, getD}
-use Rattle.answers.specs.Runs.{pick}
-use Rattle.boxes.specs.declared.Kind.{Kind}
-use Rattle.boxes.specs.declared.Kind.the-variants.{Int32, Int64, Float32, Float64}
-use Rattle.boxes.specs.declared.Range.the-variants.{I32, I64}
+use lib.ListN.{length}
+use Rattle.answers.specs.Runs.{join}
+use Rattle.description.specs.declared.Kind.{Kind}
+use Rattle.description.specs.declared.Kind.the-variants.{Int32}
+use Rattle.description.specs.declared.Description.{Description}
+use Rattle.description.specs.Kinds.{sameKind}
+use Rattle.description.specs.Description.{kindAt, sidesOf}
+use Rattle.ranges.specs.declared.Range.the-variants.{I32}
 use Rattle.boxes.specs.declared.Side.{Side}
 use Rattle.boxes.specs.declared.Window.{Window}
-use Rattle.boxes.specs.Description.{sidesOf}
-use Rattle.boxes.specs.Boxes.{boxOf}
-use Rattle.c_api.specs.Described.{isKind, kindOfNumber, numberAt, dimensionsOf}
+use Rattle.boxes.specs.Boxes.{noSide, rangeIn, boxOf}
+use Rattle.c_api.specs.Described.{isKindAt, numberedDimensions}
 
 -- a side of another kind than this one
 abbrev pub otherSide : Kind → Side
-otherSide Int32 = record { range = I64 (pos 0) (pos 0) }
-otherSide Int64 = record { range = I32 (pos 0) (pos 0) }
-otherSide Float32 = record { range = I32 (pos 0) (pos 0) }
-otherSide Float64 = record { range = I32 (pos 0) (pos 0) }
+otherSide k = cond (sameKind k Int32) noSide (record { range = I32 (pos 0) (pos 0) })
 
--- The sides as their bytes say, one after the other: for each dimension its minimum and then its maximum, little-endian, of its kind.
--- A range whose bytes are not all there counts 0 to 0, and bytes past the last are ignored.
-abbrev pub readSides : List ℕ → List ℕ → List Side
-readSides windowKinds ends = boxOf (dimensionsOf windowKinds) (sidesOf (length windowKinds)) ends
+module _ (d : Description) (numbers ends : List ℕ) where
+  -- The sides as their bytes say, one after the other: for each number its minimum and then its maximum, little-endian,
+  -- of its kind. A range whose bytes are not all there counts 0 to 0, and bytes past the last are ignored.
+  abbrev pub writtenSides : List Side
+  writtenSides = boxOf (numberedDimensions numbers) (sidesOf (length numbers)) ends
 
--- side i: as read; where its kind number is no kind, a side of another kind than the description's, so that it is 19 in its turn
-abbrev pub windowSide : List ℕ → List ℕ → List Side → ℕ → Side
-windowSide kinds windowKinds sides i =
-    pick (isKind (numberAt windowKinds i))
-    (getD sides i (record { range = I32 (pos 0) (pos 0) }))
-    (otherSide (kindOfNumber (numberAt kinds i)))
+  -- where a number is no kind's, a side of another kind than the description's, so that it is 19 in its turn
+  abbrev pub windowSide : ℕ → Side
+  windowSide i =
+      cond (isKindAt numbers i) (record { range = rangeIn writtenSides i }) (otherSide (kindAt (d .kinds) i))
 
-unfoldable pub windowSides : List ℕ → List ℕ → List Side → List Side
-windowSides kinds windowKinds sides =
-    windowSide kinds windowKinds sides 0
-    ∷ windowSide kinds windowKinds sides 1
-    ∷ windowSide kinds windowKinds sides 2
-    ∷ windowSide kinds windowKinds sides 3
-    ∷ []
-
--- the window of a description's kind numbers, its own kind numbers, and its ends
-unfoldable pub windowOf : List ℕ → List ℕ → List ℕ → Window
-windowOf kinds windowKinds ends = record {
-  dimensions = length windowKinds;
-  sides = windowSides kinds windowKinds (readSides windowKinds ends);
-}
+  unfoldable pub windowOfBytes : Window
+  windowOfBytes = record { dimensions = length numbers; sides = join (λ i. windowSide i ∷ []) 0 4 }

@@ -12,7 +12,7 @@ use lib.Dec.{leb, ltb, eqb, lit<}
 use lib.ListN.{length, getD, List·getD-append}
 use borrow.Author.Tests.{lt-ltb, le-leb, leb-true, ne-eqb}
 use Rattle.decimal.specs.Decimal.{decimal, valueFrom, valueOf, isDigit, allDigits, startsWell, isDecimal, zeroByte, nineByte}
-use Rattle.decimal.specs.Read.{number, noNumber, readNumber}
+use Rattle.decimal.specs.Read.{readAs, noNumber, readNumber}
 use Rattle.decimal.proofs.Written.{decimal-small, decimal-more, tenth-some, some-digit, by-tenths}
 
 -- ---- tests joined
@@ -138,11 +138,8 @@ decimal-of-value (b ∷ c ∷ t) h =
     further (0 + (b - 48)) (c ∷ t) (omega arith) (and-r (isDigit b) (allDigits (c ∷ t)) d)
     ∙ rw (decimal-small (0 + (b - 48)) (omega arith), e)
 
-pub decimal-same : (m n : ℕ) → decimal m ≡ decimal n → m ≡ n
-decimal-same m n e = sym (value-of-decimal m) ∙ ap valueOf e ∙ value-of-decimal n
-
 -- ---- so a text is accepted exactly where it is what its number is written as
-pub read-back : (most n : ℕ) → n ≤ most → readNumber most (decimal n) ≡ number n
+pub read-back : (most n : ℕ) → n ≤ most → readNumber most (decimal n) ≡ readAs n
 unfolding readNumber
 read-back most n h = rw (decimal-decimal n, value-of-decimal n, le-leb n most h)
 
@@ -151,7 +148,7 @@ unfolding readNumber
 read-exact most t = go (isDecimal t) (leb (valueOf t) most) (decimal-of-value t)
   where
     go : (a b : Bool) → (a ≡ true → decimal (valueOf t) ≡ t)
-        → cond (a && b) (number (valueOf t)) noNumber .read ≡ true → decimal (cond (a && b) (number (valueOf t)) noNumber .value) ≡ t
+        → cond (a && b) (readAs (valueOf t)) noNumber .read ≡ true → decimal (cond (a && b) (readAs (valueOf t)) noNumber .value) ≡ t
     go true true e h = e refl
     go true false e h = absurd (true≢false (sym h))
     go false b e h = absurd (true≢false (sym h))

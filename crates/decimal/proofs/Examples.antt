@@ -6,7 +6,7 @@ use Prim.Native.Nat.{ℕ, _-_, _^_}
 use lib.IntN.{pos, negsuc}
 use Rattle.decimal.specs.declared.Number.{Number}
 use Rattle.decimal.specs.Decimal.{written, decimal, valueFrom, allDigits, startsWell, isDecimal}
-use Rattle.decimal.specs.Read.{readNumber, number, noNumber, startsWithMinus, readSigned, signed32, signed64}
+use Rattle.decimal.specs.Read.{readNumber, readAs, noNumber, startsWithMinus, readSigned, signed32, signed64}
 use Rattle.decimal.specs.Write.{put}
 
 -- 0, 7, 10, 65536, 18446744073709551615
@@ -31,9 +31,9 @@ u64 = readNumber (2 ^ 64 - 1)
 
 -- "0", "7", "10", "18446744073709551615"
 accepted :
-    (u64 (48 ∷ []) ≡ number 0) × (u64 (55 ∷ []) ≡ number 7) × (u64 (49 ∷ 48 ∷ []) ≡ number 10)
+    (u64 (48 ∷ []) ≡ readAs 0) × (u64 (55 ∷ []) ≡ readAs 7) × (u64 (49 ∷ 48 ∷ []) ≡ readAs 10)
     × (u64 (49 ∷ 56 ∷ 52 ∷ 52 ∷ 54 ∷ 55 ∷ 52 ∷ 52 ∷ 48 ∷ 55 ∷ 51 ∷ 55 ∷ 48 ∷ 57 ∷ 53 ∷ 53 ∷ 49 ∷ 54 ∷ 49 ∷ 53 ∷ [])
-    ≡ number 18446744073709551615)
+    ≡ readAs 18446744073709551615)
 unfolding u64 readNumber isDecimal startsWell allDigits valueFrom
 accepted = (refl, refl, refl, refl)
 

@@ -18,19 +18,19 @@ use borrow.Author.Tests.{lt-ltb, leb-true, eqb-true, ne-eqb}
 use Rattle.decimal.specs.declared.Number.{Number}
 use Rattle.decimal.specs.declared.SignMagnitude.{SignMagnitude}
 use Rattle.decimal.specs.Decimal.{decimal, valueOf, isDecimal}
-use Rattle.decimal.specs.Read.{number, noNumber, readNumber, minusByte, startsWithMinus, signMagnitude, noSigned, belowZero, fromZero, readSigned, signed, signedText}
+use Rattle.decimal.specs.Read.{readAs, noNumber, readNumber, minusByte, startsWithMinus, signMagnitude, noSigned, belowZero, fromZero, readSigned, signed, signedText}
 use Rattle.decimal.proofs.Back.{first-least, read-back, read-exact}
 
 -- ---- the ways a reading can come out
 pub data Fit (most : ℕ) : Number → Type 0 where
-  fit : (n : ℕ) → n ≤ most → Fit most (number n)
+  fit : (n : ℕ) → n ≤ most → Fit most (readAs n)
   none : Fit most noNumber
 
 pub fit-of : (most : ℕ) (t : List ℕ) → Fit most (readNumber most t)
 unfolding readNumber
 fit-of most t = go (isDecimal t) (leb (valueOf t) most) (leb-true (valueOf t) most)
   where
-    go : (a b : Bool) → (b ≡ true → valueOf t ≤ most) → Fit most (cond (a && b) (number (valueOf t)) noNumber)
+    go : (a b : Bool) → (b ≡ true → valueOf t ≤ most) → Fit most (cond (a && b) (readAs (valueOf t)) noNumber)
     go true true h = fit (valueOf t) (h refl)
     go true false h = none
     go false b h = none

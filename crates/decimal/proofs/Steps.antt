@@ -11,15 +11,15 @@ use lib.ListN.{length, getD, drop, drop-of-length-le}
 use lib.Seq.{drop-cons}
 use borrow.Author.Tests.{le-leb, lt-leb, leb-true, leb-false}
 use Rattle.decimal.specs.declared.Number.{Number}
-use Rattle.decimal.specs.Decimal.{valueFrom, isDigit, allDigits, startsWell, isDecimal, zeroByte, nineByte}
-use Rattle.decimal.specs.Read.{number, noNumber, within, readNumber, readNext}
+use Rattle.decimal.specs.Decimal.{valueFrom, valueOf, isDigit, allDigits, startsWell, isDecimal, zeroByte, nineByte}
+use Rattle.decimal.specs.Read.{readAs, noNumber, ifFits, readNumber, readNext}
 
 -- what is left, after bytes that stand for v
 unfoldable pub readFrom : ℕ → ℕ → List ℕ → Number
-readFrom most v t = within most (allDigits t) (valueFrom v t)
+readFrom most v t = ifFits most (allDigits t) (valueFrom v t)
 
 -- ---- a fit
-cond-read : (b : Bool) (n : ℕ) → cond b (number n) noNumber .read ≡ b
+cond-read : (b : Bool) (n : ℕ) → cond b (readAs n) noNumber .read ≡ b
 cond-read true n = refl
 cond-read false n = refl
 
@@ -27,10 +27,10 @@ and-false : (a : Bool) → (a && false) ≡ false
 and-false true = refl
 and-false false = refl
 
-within-most : (most : ℕ) (well : Bool) (n : ℕ) → within most well n .value ≤ most
-within-most most well n = go (leb n most) (leb-true n most) well
+ifFits-most : (most : ℕ) (well : Bool) (n : ℕ) → ifFits most well n .value ≤ most
+ifFits-most most well n = go (leb n most) (leb-true n most) well
   where
-    go : (b : Bool) → (b ≡ true → n ≤ most) → (well : Bool) → cond (well && b) (number n) noNumber .value ≤ most
+    go : (b : Bool) → (b ≡ true → n ≤ most) → (well : Bool) → cond (well && b) (readAs n) noNumber .value ≤ most
     go true h true = h refl
     go false h true = omega arith
     go b h false = omega arith
@@ -57,7 +57,7 @@ module _ (most v b : ℕ) (t : List ℕ) where
 
   go-on :
       (d l : Bool) → (d && l) ≡ true
-      → within most (d && allDigits t) (valueFrom w t) ≡ within most (allDigits t) (valueFrom (cond (d && l) (number w) noNumber .value) t)
+      → ifFits most (d && allDigits t) (valueFrom w t) ≡ ifFits most (allDigits t) (valueFrom (cond (d && l) (readAs w) noNumber .value) t)
   go-on true true h = refl
   go-on true false h = absurd (true≢false (sym h))
   go-on false l h = absurd (true≢false (sym h))
@@ -66,7 +66,7 @@ module _ (most v b : ℕ) (t : List ℕ) where
   unfolding readNext readFrom valueFrom allDigits
   read-on h = go-on (isDigit b) (leb w most) (sym (cond-read (isDigit b && leb w most) w) ∙ h)
 
-  stop : (d l : Bool) → leb w most ≡ l → (d && l) ≡ false → noNumber ≡ within most (d && allDigits t) (valueFrom w t)
+  stop : (d l : Bool) → leb w most ≡ l → (d && l) ≡ false → noNumber ≡ ifFits most (d && allDigits t) (valueFrom w t)
   stop false l e h = refl
   stop true true e h = absurd (true≢false h)
   stop true false e h =
@@ -87,12 +87,16 @@ module _ (most v i : ℕ) (t : List ℕ) (l : i < length t) where
   pub read-stop-at : readNext most v (getD t i 0) .read ≡ false → noNumber ≡ readFrom most v (drop i t)
   read-stop-at h = rw (drop-cons t i 0 l) (read-stop most v (getD t i 0) (drop (suc i) t) h)
 
+pub read-most : (most : ℕ) (t : List ℕ) → readNumber most t .value ≤ most
+unfolding readNumber
+read-most most t = ifFits-most most (isDecimal t) (valueOf t)
+
 pub next-most : (most v b : ℕ) → readNext most v b .value ≤ most
 unfolding readNext
-next-most most v b = within-most most (isDigit b) (10 * v + (b - zeroByte))
+next-most most v b = ifFits-most most (isDigit b) (10 * v + (b - zeroByte))
 
 -- ---- the end
-pub read-all : (most v i : ℕ) (t : List ℕ) → length t ≤ i → v ≤ most → readFrom most v (drop i t) ≡ number v
+pub read-all : (most v i : ℕ) (t : List ℕ) → length t ≤ i → v ≤ most → readFrom most v (drop i t) ≡ readAs v
 unfolding readFrom valueFrom allDigits
 read-all most v i t l h = rw (drop-of-length-le t l, le-leb v most h)
 
@@ -102,6 +106,6 @@ module _ (most v b : ℕ) (l : zeroByte ≤ b) (m : b ≤ nineByte) where
   unfolding readNext
   next-past h = rw (le-leb 48 b l, le-leb b 57 m, lt-leb (10 * v + (b - 48)) most h)
 
-  pub next-fits : 10 * v + (b - zeroByte) ≤ most → number (10 * v + (b - zeroByte)) ≡ readNext most v b
+  pub next-fits : 10 * v + (b - zeroByte) ≤ most → readAs (10 * v + (b - zeroByte)) ≡ readNext most v b
   unfolding readNext
   next-fits h = rw (le-leb 48 b l, le-leb b 57 m, le-leb (10 * v + (b - 48)) most h)

@@ -12,23 +12,23 @@ use Rattle.decimal.specs.declared.Signed32.{Signed32}
 use Rattle.decimal.specs.declared.Signed64.{Signed64}
 use Rattle.decimal.specs.Decimal.{decimal, valueOf, isDigit, isDecimal, zeroByte}
 
-abbrev pub number : ℕ → Number
-number n = record { read = true; value = n }
+abbrev pub readAs : ℕ → Number
+readAs n = record { read = true; value = n }
 
 abbrev pub noNumber : Number
 noNumber = record { read = false; value = 0 }
 
 -- A fit: the number is at most the most.
-abbrev pub within : ℕ → Bool → ℕ → Number
-within most well n = cond (well && leb n most) (number n) noNumber
+abbrev pub ifFits : ℕ → Bool → ℕ → Number
+ifFits most well n = cond (well && leb n most) (readAs n) noNumber
 
 -- The whole text is decimal, and its number fits.
 unfoldable pub readNumber : ℕ → List ℕ → Number
-readNumber most t = within most (isDecimal t) (valueOf t)
+readNumber most t = ifFits most (isDecimal t) (valueOf t)
 
 -- One more byte, after those that stand for v.
 unfoldable pub readNext : ℕ → ℕ → ℕ → Number
-readNext most v b = within most (isDigit b) (10 * v + (b - zeroByte))
+readNext most v b = ifFits most (isDigit b) (10 * v + (b - zeroByte))
 
 -- '-'
 abbrev pub minusByte : ℕ

@@ -6,29 +6,29 @@ use mathlib.Core.List.{List, [], _∷_, _++_}
 use lib.IntN.{ℤ, pos}
 use lib.ListN.{length, take, replicate}
 use Rattle.answers.specs.declared.Refusal.{Refusal}
-use Rattle.boxes.specs.declared.Description.{Description}
-use Rattle.boxes.specs.declared.Dimension.{Dimension}
-use Rattle.boxes.specs.declared.Kind.the-variants.{Int32}
-use Rattle.boxes.specs.declared.Range.the-variants.{I32}
+use Rattle.description.specs.declared.Description.{Description}
+use Rattle.description.specs.declared.Dimension.{Dimension}
+use Rattle.description.specs.declared.Kind.the-variants.{Int32}
+use Rattle.ranges.specs.declared.Range.the-variants.{I32}
 use Rattle.boxes.specs.declared.Window.{Window}
 use Rattle.answers.specs.Checks.{first}
 use Rattle.answers.specs.Runs.{over}
-use Rattle.boxes.specs.Boxes.{boxOf, rangesRefusal, boxInside, boxMeets}
-use Rattle.boxes.specs.Description.{descriptionRefusal, sideStart, boxBytes}
-use Rattle.boxes.specs.Kinds.{key, isNan, atMost}
-use Rattle.boxes.specs.Ranges.{endsAt, endsOf, hasNan, isReversed, judged, inside, meets}
+use Rattle.boxes.specs.Boxes.{boxOf, rangesRefusal, boxInside, boxRefusal, boxMeets}
+use Rattle.description.specs.Description.{descriptionRefusal, sideStart, boxBytes}
+use Rattle.description.specs.Kinds.{key, isNan, atMost}
+use Rattle.ranges.specs.Ranges.{endsAt, endsOf, hasNan, isReversed, verdict, inside, meets}
 use Rattle.boxes.specs.Windows.{sideRefusal, windowRefusal}
 use Rattle.footer.specs.Answer.{totalCells, entries, refusedFooter, acceptedFooter, footerAnswer}
-use Rattle.footer.specs.Checks.{noFlag, flagSet, numberOutside, offsetsRefusal, headRefusal, fieldsRefusal, footerRefusal}
-use Rattle.footer.specs.Fields.{start, total as footerBytes}
+use Rattle.footer.specs.Checks.{noFlag, flagSet, numberOutside, fileOffsetsRefusal, footerRefusal}
+use Rattle.footer.specs.Fields.{start, footerBytes}
 use Rattle.lists.specs.Lists.{listRefusal, entriesRefusal}
-use Rattle.lists.specs.Offsets.{offsetsRefusal as lists-offsetsRefusal}
+use Rattle.lists.specs.Offsets.{offsetsRefusal}
 use Rattle.order.specs.Key.{signedKey}
 use Rattle.order.specs.Little.{little, firstOfTwo, secondOfTwo}
-use Rattle.rtree.specs.Body.{frontRefusal, levelsRefusal, shapeRefusal}
+use Rattle.rtree.specs.Body.{frontRefusal, sizeRefusal, countsRefusal, shapeRefusal}
 use Rattle.rtree.specs.Opening.{rootRefusal, innerRefusal, levelRefusal, boxesRefusal, bodyRefusal, openAnswer}
-use Rattle.rtree.specs.Query.{askedRefusal, queryRefusal, meeting, queryAnswer, queryBuffer}
-use Rattle.tree.specs.Shape.{up, boxes, children, climb, height, levels, counts, total, ahead, levelStart, bodyBytes}
+use Rattle.query.specs.Query.{askedRefusal, queryRefusal, meeting, queryAnswer, queryBuffer}
+use Rattle.tree.specs.Shape.{up, boxes, children, heightAbove, height, levels, allBoxes, boxesAbove, levelStart, bodyBytes}
 use Rattle.tree.specs.Walk.{looked, found}
 
 -- a number as little-endian bytes
@@ -83,12 +83,12 @@ worked =
     ∷ asked 4 4
     ∷ opened (box 20 24)
     ∷ opened (box 20 25)
-    ∷ (levels 2 1 ∷ levels 10 10 ∷ levels 10 11 ∷ levels 2 65536 ∷ total 2 65536 16 ∷ [])
+    ∷ (levels 2 1 ∷ levels 10 10 ∷ levels 10 11 ∷ levels 2 65536 ∷ allBoxes 2 65536 ∷ [])
     ∷ sized 24
     ∷ sized 23
     ∷ sized 25
     ∷ (footerBytes (described 2) (footerOf 164 (box 0 9 ++ box 0 9)) ∷ length (footerOf 164 (box 0 9 ++ box 0 9)) ∷ footerAnswer (described 2) 1000 (footerOf 164 (box 0 9 ++ box 0 9)) .length ∷ [])
-    ∷ told (lists-offsetsRefusal 3 300 (le 8 3 ++ le 8 0 ++ le 8 100 ++ le 8 300))
+    ∷ told (offsetsRefusal 3 300 (le 8 3 ++ le 8 0 ++ le 8 100 ++ le 8 300))
     ∷ (totalCells 3 5 32 ∷ [])
     ∷ []
 
@@ -120,5 +120,5 @@ stated =
     ∷ []
 
 starred : worked ≡ stated
-unfolding first over boxOf rangesRefusal boxInside boxMeets descriptionRefusal sideStart boxBytes key isNan atMost endsAt endsOf hasNan isReversed judged inside meets sideRefusal windowRefusal totalCells entries refusedFooter acceptedFooter footerAnswer noFlag flagSet numberOutside offsetsRefusal headRefusal fieldsRefusal footerRefusal start listRefusal entriesRefusal lists-offsetsRefusal signedKey little firstOfTwo secondOfTwo frontRefusal levelsRefusal rootRefusal innerRefusal levelRefusal boxesRefusal bodyRefusal openAnswer askedRefusal queryRefusal meeting queryAnswer queryBuffer up boxes children climb height levels counts total ahead levelStart bodyBytes looked found le described footerOf box treeA window asked opened told sized worked stated
+unfolding first over boxOf rangesRefusal boxInside boxRefusal boxMeets descriptionRefusal sideStart boxBytes key isNan atMost endsAt endsOf hasNan isReversed verdict inside meets sideRefusal windowRefusal totalCells entries refusedFooter acceptedFooter footerAnswer noFlag flagSet numberOutside fileOffsetsRefusal footerRefusal start footerBytes listRefusal entriesRefusal offsetsRefusal signedKey little firstOfTwo secondOfTwo frontRefusal sizeRefusal countsRefusal shapeRefusal rootRefusal innerRefusal levelRefusal boxesRefusal bodyRefusal openAnswer askedRefusal queryRefusal meeting queryAnswer queryBuffer up boxes children heightAbove height levels allBoxes boxesAbove levelStart bodyBytes looked found le described footerOf box treeA window asked opened told sized worked stated
 starred = refl

@@ -1,20 +1,21 @@
-// Runs cases from standard input through the library and writes what each answers, one line of tab-parted numbers a case.
+// Runs cases from standard input through the library and writes what each answers, one line of tab-parted numbers a
+// case.
 //
-// A case is a row of u64 and then two byte strings: 0 the bytes of the whole case, 8 what to ask, 16 D, 24 to 48 the four kinds, 56 N,
-// 64 C, 72, 80 and 88 further numbers, 96 the bytes of the first string.
-use boxes::Description;
-use boxes::Dimension;
-use boxes::Kind;
-use boxes::Range;
+// A case is a row of u64 and then two byte strings: 0 the bytes of the whole case, 8 what to ask, 16 D, 24 to 48 the
+// four kinds, 56 N, 64 C, 72, 80 and 88 further numbers, 96 the bytes of the first string.
 use boxes::Side;
 use boxes::Window;
+use description::Description;
+use description::Dimension;
+use description::Kind;
 use libc::STDIN_FILENO;
 use libc::STDOUT_FILENO;
-use rtree::Answer;
+use query::Answer;
+use ranges::Range;
 ghost use Prim.Native.Nat.{_≤_, _<_};
 
 fn main() {
-    let mut space = [0u8; 262144];
+    let mut space = [0u8; 524_288];
     let n = io::read_full(STDIN_FILENO, &mut space);
     cases(&space[0..n]);
 }
@@ -69,6 +70,7 @@ fn answer(case: &[u8], a: &[u8], b: &[u8]) {
         4 => sizes_case(case, a),
         5 => open_case(case, a, b),
         6 => query_case(case, a, b),
+        7 => opened_case(case, a, b),
         _ => (),
     }
     io::write_all(STDOUT_FILENO, b"\n");
@@ -79,12 +81,14 @@ fn number(x: u64) {
     io::write_all(STDOUT_FILENO, b"\t");
 }
 
+// The kind of a Datatype number. No case has another number.
 fn kind(x: u64) -> Kind {
     match x {
         0 => Kind::Int32,
         1 => Kind::Int64,
         2 => Kind::Float32,
-        _ => Kind::Float64,
+        3 => Kind::Float64,
+        _ => Kind::Int64,
     }
 }
 
@@ -155,7 +159,7 @@ fn footer_case(case: &[u8], bytes: &[u8]) {
     number(footer::total_cells(d, size, bytes));
 }
 
-// The entries of a list up to the last that is not 0.
+// The first three places of a list, and the last.
 fn list(entries: [u64; 64]) {
     number(entries[0]);
     number(entries[1]);
@@ -192,7 +196,7 @@ fn sizes_case(case: &[u8], bytes: &[u8]) {
 
 fn open_case(case: &[u8], bytes: &[u8], body: &[u8]) {
     let d = description(case);
-    let r = rtree::open(d, order::u64_at(case, 72), bytes, body);
+    let r = opening::open(d, order::u64_at(case, 72), bytes, body);
     number(r.number);
     number(r.place);
     number(r.which);
@@ -202,21 +206,21 @@ fn open_case(case: &[u8], bytes: &[u8], body: &[u8]) {
 }
 
 // A range by its kind and the patterns of its ends.
-fn range(k: u64, low: u64, high: u64) -> Range {
+fn range(k: Kind, low: u64, high: u64) -> Range {
     let a = (low % 0x1_0000_0000) as u32;
     let z = (high % 0x1_0000_0000) as u32;
     match k {
-        0 => Range::I32(order::i32_of(a), order::i32_of(z)),
-        1 => Range::I64(order::i64_of(low), order::i64_of(high)),
-        2 => Range::F32(order::f32_of(a), order::f32_of(z)),
-        _ => Range::F64(order::f64_of(low), order::f64_of(high)),
+        Kind::Int32 => Range::I32(order::i32_of(a), order::i32_of(z)),
+        Kind::Int64 => Range::I64(order::i64_of(low), order::i64_of(high)),
+        Kind::Float32 => Range::F32(order::f32_of(a), order::f32_of(z)),
+        Kind::Float64 => Range::F64(order::f64_of(low), order::f64_of(high)),
     }
 }
 
 fn side(bytes: &[u8], at: usize) -> Side
     requires { ⌜ at ≤ 128 ⌝ }
 {
-    let k = order::u64_at(bytes, at);
+    let k = kind(order::u64_at(bytes, at));
     let r = range(
         k,
         order::u64_at(bytes, at + 8),
@@ -241,13 +245,31 @@ fn window(bytes: &[u8]) -> Window {
 fn query_case(case: &[u8], body: &[u8], asked: &[u8]) {
     let mut space = [7u32; 8];
     let out: &mut [u32] = &mut space;
+    lend(case, body, asked, out, room(case));
+    places(out);
+}
+
+// An opened tree, asked once. The second string is the window, of 104 bytes, and then the body.
+fn opened_case(case: &[u8], bytes: &[u8], both: &[u8]) {
+    if both.len() < 104 {
+        return;
+    }
+    let mut space = [7u32; 8];
+    let out: &mut [u32] = &mut space;
+    let w = window(both);
+    open_and_lend(case, bytes, &both[104..], w, out, room(case));
+    places(out);
+}
+
+fn room(case: &[u8]) -> usize {
     let room = order::u64_at(case, 80);
     if room < 8 {
-        let m = room as usize;
-        lend(case, body, asked, out, m);
-    } else {
-        lend(case, body, asked, out, 8);
+        return room as usize;
     }
+    8
+}
+
+fn places(out: &[u32]) {
     place(out, 0);
     place(out, 1);
     place(out, 2);
@@ -273,7 +295,16 @@ fn lend(case: &[u8], body: &[u8], asked: &[u8], out: &mut [u32], room: usize) {
     let w = window(asked);
     let n = order::u64_at(case, 72);
     if room <= out.len() {
-        answered(rtree::query(d, n, body, w, &mut out[0..room]));
+        answered(query::query(d, n, body, w, &mut out[0..room]));
+    }
+}
+
+fn open_and_lend(case: &[u8], bytes: &[u8], body: &[u8], w: Window, out: &mut [u32], room: usize) {
+    let d = description(case);
+    let size = order::u64_at(case, 72);
+    if room <= out.len() {
+        let r = opened::open_and_ask(d, size, bytes, body, w, &mut out[0..room]);
+        answered(r);
     }
 }
 

@@ -1,43 +1,28 @@
 -- What is told of the domain's ranges in the box's own bytes, said of the footer: the places move by the domain's start. None is past the box.
 -- Assumes nothing.
 use mathlib.Core.Path.{_≡_, refl, sym, _∙_}
-use mathlib.Core.Bool.{Bool, true, false}
+use mathlib.Core.Bool.{Bool, true, false, cond}
 use mathlib.Core.List.{List}
 use Prim.Native.Nat.{ℕ, _+_, _≤_}
 use native.Mathlib.Omega.{arith}
 use lib.Dec.{eqb}
 use Rattle.answers.specs.Refusals.{refusal, none}
-use Rattle.answers.specs.Runs.{pick}
 use Rattle.answers.specs.declared.Refusal.{Refusal}
-use Rattle.answers.proofs.Checks.{each-has}
-use Rattle.boxes.specs.declared.Dimension.{Dimension}
-use Rattle.boxes.specs.declared.Judged.{Judged}
-use Rattle.boxes.specs.declared.Judged.the-variants.{Sound, NotANumber, Reversed}
-use Rattle.boxes.specs.Description.{kindAt, sideStart}
-use Rattle.boxes.specs.Ranges.{judgedAt, judgedRefusal}
+use Rattle.description.specs.declared.Dimension.{Dimension}
 use Rattle.boxes.specs.Boxes.{rangesRefusal}
-use Rattle.boxes.proofs.Sides.{start-most}
-use Rattle.boxes.proofs.Moving.{moved, moved-clear, moved-some, ranges-moved, ranges-none}
-
-told-most : (j : Judged) (place : ℕ) → place ≤ 64 → judgedRefusal j place .place ≤ 64
-told-most (Sound r) place h = omega arith
-told-most NotANumber place h = h
-told-most Reversed place h = h
+use Rattle.description.proofs.Sides.{start-most}
+use Rattle.boxes.proofs.Moving.{moved, moved-clear, moved-some, ranges-moved, ranges-none, fault-before}
 
 moved-number : (by : ℕ) (r : Refusal) → moved by r .number ≡ r .number
 moved-number by r = go (eqb (r .number) 0)
   where
-    go : (t : Bool) → pick t r (refusal (r .number) (by + r .place)) .number ≡ r .number
+    go : (t : Bool) → cond t r (refusal (r .number) (by + r .place)) .number ≡ r .number
     go true = refl
     go false = refl
 
 module _ (kinds : List Dimension) (m : ℕ) (bytes : List ℕ) where
   pub ranges-place : m ≤ 4 → rangesRefusal kinds m bytes 0 .place ≤ 64
-  unfolding rangesRefusal
-  ranges-place h =
-      each-has (λ r. r .place ≤ 64) _ 0 m (omega arith)
-      (λ i a b.
-      told-most (judgedAt (kindAt kinds i) bytes (sideStart kinds i)) (0 + sideStart kinds i) (omega (arith, start-most kinds i)))
+  ranges-place h = omega (arith, fault-before kinds m bytes, start-most kinds m)
 
   -- ranges that are not refused at one place are refused at none
   pub ranges-anywhere : (from to : ℕ) → rangesRefusal kinds m bytes from .number ≡ 0 → rangesRefusal kinds m bytes to ≡ none

@@ -1,5 +1,5 @@
 -- The laws that belong to no one function.
 pub mod Domain
-pub mod Head
-pub mod Body
-pub mod Accepted
+pub mod Fields
+pub mod Parts
+pub mod Passed

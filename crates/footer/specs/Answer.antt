@@ -1,32 +1,33 @@
 -- What an accepted footer answers: every number and the domain; and the cells of its tiles.
 -- Assumes nothing.
+use mathlib.Core.Bool.{cond}
+use Prim.Native.String.{String}
 use Prim.Native.Nat.{ℕ, _+_, _-_, _*_}
-use mathlib.Core.List.{List}
+use mathlib.Core.List.{List, [], _∷_}
 use lib.Dec.{ltb, eqb}
-use lib.ListN.{getD, take, drop, replicate}
-use Rattle.answers.specs.Runs.{pick, filled}
+use lib.ListN.{take, drop, replicate}
+use Rattle.answers.specs.Runs.{filled}
 use Rattle.order.specs.Little.{little}
-use Rattle.boxes.specs.declared.Description.{Description}
-use Rattle.boxes.specs.declared.Side.{Side}
-use Rattle.boxes.specs.Limits.{mostFields}
-use Rattle.boxes.specs.Description.{sidesOf}
+use Rattle.description.specs.declared.Description.{Description}
+use Rattle.description.specs.Limits.{mostFields}
+use Rattle.description.specs.Description.{sidesOf}
 use Rattle.boxes.specs.Boxes.{noBox, boxOf}
 use Rattle.footer.specs.declared.Checked.{Checked}
 use Rattle.footer.specs.declared.Footer.{Footer}
-use Rattle.footer.specs.Fields.{nameSize, start, domainBytes}
+use Rattle.footer.specs.Fields.{start, nameSizeOf, byteOf, numberOf, tilesOf, lastCellsOf, domainBytes}
 use Rattle.footer.specs.Checks.{footerRefusal}
 
 -- Tile i, counted from 0, holds C cells, the last one its own number, any i from n on none.
 unfoldable pub cellsOf : ℕ → ℕ → ℕ → ℕ → ℕ
-cellsOf n last c i = pick (ltb (i + 1) n) c (pick (eqb (i + 1) n) last 0)
+cellsOf n last c i = cond (ltb (i + 1) n) c (cond (eqb (i + 1) n) last 0)
 
 -- the whole is (n-1)C + last; none where there is no tile
 unfoldable pub totalCells : ℕ → ℕ → ℕ → ℕ
-totalCells n last c = pick (eqb n 0) 0 ((n - 1) * c + last)
+totalCells n last c = cond (eqb n 0) 0 ((n - 1) * c + last)
 
 -- the first m entries of the list that starts at a place, and 0 in the list places past them
 unfoldable pub entries : List ℕ → ℕ → ℕ → List ℕ
-entries bytes m at = filled (λ i. little bytes (at + 8 * i) 8) 0 m mostFields
+entries footer m at = filled (λ i. little footer (at + 8 * i) 8) 0 m mostFields
 
 -- A refusal has 0 in every other number, and an int64 range 0 to 0 in all box places.
 abbrev pub zeros : List ℕ
@@ -37,7 +38,7 @@ refusedChecked number place = record {
   number = number;
   place = place;
   «name_size» = 0;
-  domain = noBox;
+  domain = 0;
   tiles = 0;
   «last_cells» = 0;
 }
@@ -72,76 +73,78 @@ refusedFooter number place = record {
   length = 0;
 }
 
+-- the numbers of an answer and its lists, in footer order
+abbrev pub numbersOf : Footer → List ℕ
+numbersOf f =
+    f .version ∷ f .«name_size» ∷ f .dense ∷ f .«null_domain» ∷ f .tiles ∷ f .«last_cells» ∷ f .timestamps ∷ f .deletes
+    ∷ f .rtree ∷ f .fragment ∷ f .conditions ∷ f .length ∷ []
+
+abbrev pub listsOf : Footer → List (List ℕ)
+listsOf f =
+    f .«file_sizes» ∷ f .«file_var_sizes» ∷ f .«file_validity_sizes» ∷ f .«tile_offsets» ∷ f .«var_offsets» ∷ f .«var_sizes»
+    ∷ f .validity ∷ f .mins ∷ f .maxes ∷ f .sums ∷ f .«null_counts» ∷ []
+
 -- Accepted, the answer carries every number and the domain.
-module _ (d : Description) (bytes : List ℕ) where
-  -- field k as a flag byte, as a u64, as a list of N entries; and the domain
-  abbrev pub byteOf : ℕ → ℕ
-  byteOf k = getD bytes (start d bytes k) 0
-
-  abbrev pub numberOf : ℕ → ℕ
-  numberOf k = little bytes (start d bytes k) 8
-
-  abbrev pub listOf : ℕ → List ℕ
-  listOf k = entries bytes (d .fields) (start d bytes k)
-
-  abbrev pub domainOf : List Side
-  domainOf = boxOf (d .kinds) (sidesOf (d .dimensions)) (domainBytes d bytes)
+module _ (d : Description) (footer : List ℕ) where
+  abbrev pub listOf : String → List ℕ
+  listOf field = entries footer (d .fields) (start d footer field)
 
   unfoldable pub acceptedChecked : Checked
   acceptedChecked = record {
     number = 0;
     place = 0;
-    «name_size» = nameSize bytes;
-    domain = domainOf;
-    tiles = numberOf 6;
-    «last_cells» = numberOf 7;
+    «name_size» = nameSizeOf footer;
+    domain = start d footer "domain";
+    tiles = tilesOf d footer;
+    «last_cells» = lastCellsOf d footer;
   }
 
   unfoldable pub acceptedFooter : Footer
   acceptedFooter = record {
     number = 0;
     place = 0;
-    version = little bytes 0 4;
-    «name_size» = nameSize bytes;
-    dense = byteOf 3;
-    «null_domain» = byteOf 4;
-    domain = domainOf;
-    tiles = numberOf 6;
-    «last_cells» = numberOf 7;
-    timestamps = byteOf 8;
-    deletes = byteOf 9;
-    «file_sizes» = listOf 10;
-    «file_var_sizes» = listOf 11;
-    «file_validity_sizes» = listOf 12;
-    rtree = numberOf 13;
-    «tile_offsets» = listOf 14;
-    «var_offsets» = listOf 15;
-    «var_sizes» = listOf 16;
-    validity = listOf 17;
-    mins = listOf 18;
-    maxes = listOf 19;
-    sums = listOf 20;
-    «null_counts» = listOf 21;
-    fragment = numberOf 22;
-    conditions = numberOf 23;
-    length = numberOf 24;
+    version = little footer (start d footer "version") 4;
+    «name_size» = nameSizeOf footer;
+    dense = byteOf d footer "dense";
+    «null_domain» = byteOf d footer "null domain";
+    domain = boxOf (d .kinds) (sidesOf (d .dimensions)) (domainBytes d footer);
+    tiles = tilesOf d footer;
+    «last_cells» = lastCellsOf d footer;
+    timestamps = byteOf d footer "timestamps";
+    deletes = byteOf d footer "deletes";
+    «file_sizes» = listOf "file sizes";
+    «file_var_sizes» = listOf "file var sizes";
+    «file_validity_sizes» = listOf "file validity sizes";
+    rtree = numberOf d footer "R-tree";
+    «tile_offsets» = listOf "tile offsets";
+    «var_offsets» = listOf "var offsets";
+    «var_sizes» = listOf "var sizes";
+    validity = listOf "validity";
+    mins = listOf "mins";
+    maxes = listOf "maxes";
+    sums = listOf "sums";
+    «null_counts» = listOf "null counts";
+    fragment = numberOf d footer "fragment";
+    conditions = numberOf d footer "conditions";
+    length = numberOf d footer "length";
   }
 
 -- The answers, and the further requests.
-module _ (d : Description) (F : ℕ) (bytes : List ℕ) where
-  abbrev pub accepted : {A : Type 0} → A → (ℕ → ℕ → A) → A
-  accepted a refused =
-      pick (eqb (footerRefusal d F bytes .number) 0) a (refused (footerRefusal d F bytes .number) (footerRefusal d F bytes .place))
+module _ (d : Description) (F : ℕ) (footer : List ℕ) where
+  abbrev pub unlessRefused : {A : Type 0} → A → (ℕ → ℕ → A) → A
+  unlessRefused answer refused =
+      cond (eqb (footerRefusal d F footer .number) 0) answer
+      (refused (footerRefusal d F footer .number) (footerRefusal d F footer .place))
 
   unfoldable pub checkedAnswer : Checked
-  checkedAnswer = accepted (acceptedChecked d bytes) refusedChecked
+  checkedAnswer = unlessRefused (acceptedChecked d footer) refusedChecked
 
   unfoldable pub footerAnswer : Footer
-  footerAnswer = accepted (acceptedFooter d bytes) refusedFooter
+  footerAnswer = unlessRefused (acceptedFooter d footer) refusedFooter
 
   -- the schema name as that part of the lent footer; for a footer that is refused an empty part
   unfoldable pub schemaName : List ℕ
-  schemaName = take (checkedAnswer .«name_size») (drop (start d bytes 2) bytes)
+  schemaName = take (checkedAnswer .«name_size») (drop (start d footer "name") footer)
 
   -- the cells of tile i, and of the whole; for a refused footer both are 0
   unfoldable pub tileCells : ℕ → ℕ

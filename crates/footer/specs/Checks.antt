@@ -1,70 +1,78 @@
 -- When a footer is refused: the checks in their order.
 -- Assumes nothing.
 use Prim.Native.Nat.{ℕ, _+_, _-_, _*_}
-use mathlib.Core.Bool.{not}
-use mathlib.Core.List.{List, [], _∷_}
+use mathlib.Core.Bool.{Bool, not}
+use mathlib.Core.List.{List, [], _∷_, _++_}
 use lib.Dec.{ltb, eqb}
 use lib.ListN.{length, getD}
 use Rattle.answers.specs.Refusals as refusals
-use Rattle.answers.specs.Checks.{check, otherwise, first, each}
+use Rattle.answers.specs.Checks.{check, first, each}
 use Rattle.answers.specs.declared.Refusal.{Refusal}
 use Rattle.order.specs.Little.{little}
-use Rattle.boxes.specs.declared.Description.{Description}
-use Rattle.boxes.specs.Limits.{leastVersion, mostVersion, leastName, mostName, leastTiles, mostTiles, outside}
-use Rattle.boxes.specs.Description.{sidesOf, descriptionRefusal}
+use Rattle.description.specs.declared.Description.{Description}
+use Rattle.description.specs.Limits.{leastVersion, mostVersion, leastName, mostName, leastTiles, mostTiles, outside}
+use Rattle.description.specs.Description.{sidesOf, descriptionRefusal}
 use Rattle.boxes.specs.Boxes.{rangesRefusal}
-use Rattle.footer.specs.Fields.{start, domainBytes, total}
+use Rattle.footer.specs.Fields.{start, footerBytes, domainBytes}
 
--- What is said of a field by its start.
-module _ (bytes : List ℕ) where
+-- What is said of the bytes, and of a field by its start.
+module _ (footer : List ℕ) where
+  -- 2 at the number of lent bytes
+  abbrev pub wrongBytes : Bool → Refusal
+  wrongBytes test = check test refusals.bytes (length footer)
+
   -- a flag byte is neither 0 nor 1
   unfoldable pub noFlag : ℕ → Refusal
-  noFlag at = check (ltb 1 (getD bytes at 0)) refusals.flag at
+  noFlag at = check (ltb 1 (getD footer at 0)) refusals.flag at
 
   -- a flag that must not be 1
   unfoldable pub flagSet : ℕ → ℕ → Refusal
-  flagSet number at = check (eqb (getD bytes at 0) 1) number at
+  flagSet number at = check (eqb (getD footer at 0) 1) number at
 
-  -- a u64 that must not be below the least or above the most
-  unfoldable pub numberOutside : ℕ → ℕ → ℕ → ℕ → Refusal
-  numberOutside least most number at = check (outside least most (little bytes at 8)) number at
+  -- a number of so many bytes that must not be below the least or above the most
+  unfoldable pub numberOutside : ℕ → ℕ → ℕ → ℕ → ℕ → Refusal
+  numberOutside width least most number at = check (outside least most (little footer at width)) number at
 
   -- so many offsets one after the other, each of which must be below the limit
-  unfoldable pub offsetsRefusal : ℕ → ℕ → ℕ → Refusal
-  offsetsRefusal limit count at =
-      each (λ i. check (not (ltb (little bytes (at + 8 * i) 8) limit)) refusals.offset (at + 8 * i)) 0 count
+  unfoldable pub fileOffsetsRefusal : ℕ → ℕ → ℕ → Refusal
+  fileOffsetsRefusal limit count at =
+      each (λ i. check (not (ltb (little footer (at + 8 * i) 8) limit)) refusals.offset (at + 8 * i)) 0 count
 
-module _ (d : Description) (F : ℕ) (bytes : List ℕ) where
-  -- 1; fewer than 12 bytes, 2; 3; 4; bytes unlike the total, or F below it, 2
-  unfoldable pub headRefusal : Refusal
-  headRefusal = first (
+module _ (d : Description) (footer : List ℕ) where
+  -- 1; fewer than 12 bytes, 2; 3; 4
+  abbrev pub headChecks : List Refusal
+  headChecks =
       descriptionRefusal d
-      ∷ check (ltb (length bytes) 12) refusals.bytes (length bytes)
-      ∷ check (outside leastVersion mostVersion (little bytes 0 4)) refusals.version 0
-      ∷ numberOutside bytes leastName mostName refusals.nameSize 4
-      ∷ check (not (eqb (length bytes) (total d bytes))) refusals.bytes (length bytes)
-      ∷ check (ltb F (total d bytes)) refusals.bytes (length bytes)
+      ∷ wrongBytes footer (ltb (length footer) 12)
+      ∷ numberOutside footer 4 leastVersion mostVersion refusals.version (start d footer "version")
+      ∷ numberOutside footer 8 leastName mostName refusals.nameSize (start d footer "name size")
       ∷ []
-      )
 
-  -- then field by field in footer order, the length field last
-  unfoldable pub fieldsRefusal : Refusal
-  fieldsRefusal = first (
-      noFlag bytes (start d bytes 3)
-      ∷ flagSet bytes refusals.dense (start d bytes 3)
-      ∷ noFlag bytes (start d bytes 4)
-      ∷ flagSet bytes refusals.nullDomain (start d bytes 4)
-      ∷ rangesRefusal (d .kinds) (sidesOf (d .dimensions)) (domainBytes d bytes) (start d bytes 5)
-      ∷ numberOutside bytes leastTiles mostTiles refusals.tiles (start d bytes 6)
-      ∷ numberOutside bytes 1 (d .capacity) refusals.lastCells (start d bytes 7)
-      ∷ noFlag bytes (start d bytes 8)
-      ∷ noFlag bytes (start d bytes 9)
-      -- the R-tree offset, the eight lists of N offsets, the fragment offset and the processed conditions offset, one after the other:
-      -- each below F less the footer's bytes
-      ∷ offsetsRefusal bytes (F - total d bytes) (8 * d .fields + 3) (start d bytes 13)
-      ∷ check (not (eqb (little bytes (start d bytes 24) 8) (total d bytes - 8))) refusals.bytes (length bytes)
+  -- bytes unlike the total, or F below it, 2
+  abbrev pub sizeChecks : ℕ → List Refusal
+  sizeChecks F =
+      wrongBytes footer (not (eqb (length footer) (footerBytes d footer)))
+      ∷ wrongBytes footer (ltb F (footerBytes d footer))
       ∷ []
-      )
 
-  unfoldable pub footerRefusal : Refusal
-  footerRefusal = otherwise headRefusal fieldsRefusal
+  -- field by field in footer order, the length field last
+  abbrev pub fieldChecks : ℕ → List Refusal
+  fieldChecks F =
+      noFlag footer (start d footer "dense")
+      ∷ flagSet footer refusals.dense (start d footer "dense")
+      ∷ noFlag footer (start d footer "null domain")
+      ∷ flagSet footer refusals.nullDomain (start d footer "null domain")
+      ∷ rangesRefusal (d .kinds) (sidesOf (d .dimensions)) (domainBytes d footer) (start d footer "domain")
+      ∷ numberOutside footer 8 leastTiles mostTiles refusals.tiles (start d footer "tiles")
+      ∷ numberOutside footer 8 1 (d .capacity) refusals.lastCells (start d footer "last cells")
+      ∷ noFlag footer (start d footer "timestamps")
+      ∷ noFlag footer (start d footer "deletes")
+      -- the R-tree offset, the eight lists of N offsets, the fragment offset and the processed conditions offset, one
+      -- after the other: each below F less the footer's bytes
+      ∷ fileOffsetsRefusal footer (F - footerBytes d footer) (8 * d .fields + 3) (start d footer "R-tree")
+      ∷ wrongBytes footer (not (eqb (little footer (start d footer "length") 8) (footerBytes d footer - 8)))
+      ∷ []
+
+-- Checks in order.
+unfoldable pub footerRefusal : Description → ℕ → List ℕ → Refusal
+footerRefusal d F footer = first (headChecks d footer ++ (sizeChecks d footer F ++ fieldChecks d footer F))

@@ -1,5 +1,4 @@
 -- The definitions that this crate's contracts, and every crate above, cite.
 pub mod Fields
-pub mod Places
 pub mod Checks
 pub mod Answer

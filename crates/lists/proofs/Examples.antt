@@ -1,4 +1,5 @@
--- Worked cases of the rules, by computation from the definitions: lists of three tiles, with 0, 100, 300 as document 01 has it.
+-- Worked cases of the rules, by computation from the definitions: lists of three tiles, with 0, 100, 300 as document 01
+-- has it.
 -- Assumes nothing.
 use mathlib.Core.Path.{_≡_, refl}
 use mathlib.Core.List.{List, [], _∷_, _++_}

@@ -1,24 +1,25 @@
--- Where do the tiles' bytes lie in the data file? For offsets that start at 0, never fall and don't pass S, each tile's bytes end where the
--- next one's start and the last one's at S, so that the extents before tile i add up to its offset, and all of them to S. That much is
--- said of any such offsets; those of an accepted list also rise, so that no extent is empty.
+-- Where do the tiles' bytes lie in the data file? For offsets that start at 0, never fall and don't pass S, each tile's
+-- bytes end where the next one's start and the last one's at S, so that the extents before tile i add up to its offset,
+-- and all of them to S. That much is said of any such offsets; those of an accepted list also rise, so that no extent
+-- is empty.
 -- Assumes nothing.
-use mathlib.Core.Path.{_≡_, sym, ap, _∙_}
-use mathlib.Core.Bool.{false, not}
+use mathlib.Core.Path.{_≡_, refl, sym, ap, _∙_}
+use mathlib.Core.Bool.{Bool, true, false, not, cond}
 use mathlib.Core.List.{List}
 use Prim.Native.Nat.{ℕ, zero, suc, _+_, _-_, _*_, _≤_, _<_}
 use native.Mathlib.Numerals.{add-one}
 use native.Mathlib.Decide.{decLt}
 use native.Mathlib.Omega.{arith}
 use lib.Dec.{leb, eqb}
-use borrow.Author.Tests.{lt-ltb, le-ltb, eqb-true, leb-false, not-false}
+use borrow.Author.Tests.{lt-ltb, le-ltb, eqb-true, ne-eqb, leb-false, not-false}
 use Rattle.answers.specs.Refusals.{tileOffsets}
-use Rattle.answers.specs.Runs.{sum, pick}
+use Rattle.answers.specs.Runs.{over, sum}
 use Rattle.answers.proofs.Runs.{Each}
 use Rattle.answers.proofs.Checks.{clear, each-clear, check-clear}
 use Rattle.lists.specs.Lists.{entry, listRefusal, entriesRefusal}
-use Rattle.lists.specs.Offsets.{offsetBreaks, offsetsRefusal, offsetOf, extentOf, extentAt, extentAnswer, Extents}
+use Rattle.lists.specs.Offsets.{offsetBreaks, offsetsRefusal, offsetsAnswer, offsetOf, extentOf, extentAt, extentAnswer, Extents}
 use Rattle.lists.proofs.Header.{neither, sound}
-use Rattle.lists.proofs.Entries.{sum-none, sum-next, later}
+use Rattle.lists.proofs.Entries.{sum-next}
 
 -- ---- offsets that start at 0, never fall and don't pass S
 pub record InOrder (n S : ℕ) (s : List ℕ) : Type 0 where
@@ -51,7 +52,8 @@ module _ (n S : ℕ) (s : List ℕ) (o : InOrder n S s) where
       rw (offset-is n S s (n - 1) (omega arith), extent-last n S s some) (omega (arith, o .within))
 
   extents-before : (i : ℕ) → i < n → sum (extentOf n S s) 0 i ≡ offsetOf n s i
-  extents-before zero h = sum-none (extentOf n S s) ∙ sym (offset-is n S s 0 h ∙ o .starts)
+  unfolding over
+  extents-before zero h = sym (offset-is n S s 0 h ∙ o .starts)
   extents-before (suc i) h = rw (add-one i) at (step i (omega arith) (extents-before i (omega arith)))
     where
       step : (i : ℕ) → i + 1 < n → sum (extentOf n S s) 0 i ≡ offsetOf n s i → sum (extentOf n S s) 0 (i + 1) ≡ offsetOf n s (i + 1)
@@ -86,15 +88,13 @@ module _ (n S : ℕ) (s : List ℕ) (accepted : offsetsRefusal n S s .number ≡
 
   pub rising : (i : ℕ) → i + 1 < n → entry s i < entry s (i + 1)
   rising i h =
-      let x = entry s (i + 1) in
-      let before = entry s (i + 1 - 1) in
-      let e = sym (later S (entry s) (i + 1) (omega arith)) ∙ entries-sound (i + 1) (omega arith) (omega arith) in
       let q : i + 1 - 1 ≡ i = omega arith in
-      rw q at (leb-false x before (neither (leb x before) (leb S x) e .0))
+      let e = rw (ne-eqb (i + 1) 0 (λ z. omega arith), q) at (entries-sound (i + 1) (omega arith) (omega arith)) in
+      leb-false (entry s (i + 1)) (entry s i) (neither (leb (entry s (i + 1)) (entry s i)) (leb S (entry s (i + 1))) e .0)
 
   pub below : (i : ℕ) → i < n → entry s i < S
   below i h =
-      let order = pick (eqb i 0) (not (eqb (entry s i) 0)) (leb (entry s i) (entry s (i - 1))) in
+      let order = cond (eqb i 0) (not (eqb (entry s i) 0)) (leb (entry s i) (entry s (i - 1))) in
       let e = entries-sound i (omega arith) (omega arith) in
       leb-false S (entry s i) (neither order (leb S (entry s i)) e .1)
 
@@ -125,6 +125,15 @@ module _ (n S : ℕ) (s : List ℕ) (accepted : offsetsRefusal n S s .number ≡
     last = last-ends n S s in-order;
   }
 
-  -- with and without the check
-  pub same-extent : (i : ℕ) → extentAnswer n S s i ≡ extentAt n S s i
-  same-extent i = rw accepted
+-- ---- asked with and without the check: of a list that answers 0 tiles there is no tile i
+module _ (n S : ℕ) (s : List ℕ) (i : ℕ) where
+  pub asked : extentAt (offsetsAnswer n S s .tiles) S s i ≡ extentAnswer n S s i
+  unfolding offsetOf extentOf
+  asked = go (eqb (offsetsRefusal n S s .number) 0)
+    where
+      go : (b : Bool) → extentAt (cond b n 0) S s i ≡ cond b (extentAt n S s i) (record { offset = 0; extent = 0 })
+      go true = refl
+      go false = rw (le-ltb i 0 (omega arith))
+
+  pub same-extent : offsetsRefusal n S s .number ≡ 0 → extentAnswer n S s i ≡ extentAt n S s i
+  same-extent accepted = rw accepted

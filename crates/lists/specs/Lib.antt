@@ -1,5 +1,5 @@
--- The definitions that this crate's contracts, and every crate above, cite.
+-- The definitions that this crate's contracts, and every crate above, cite; and the code's own.
 pub mod Lists
-pub mod Rules
 pub mod Offsets
 pub mod Sizes
+pub mod Code

@@ -8,7 +8,7 @@ use lib.ListN.{length}
 use Rattle.answers.specs.Refusals.{bytes, tiles, count}
 use Rattle.answers.specs.Checks.{check, first, each}
 use Rattle.answers.specs.declared.Refusal.{Refusal}
-use Rattle.boxes.specs.Limits.{leastTiles, mostTiles, outside}
+use Rattle.description.specs.Limits.{leastTiles, mostTiles, outside}
 use Rattle.order.specs.Little.{little}
 
 -- "Both bodies: u64 count, then that many u64." Entry i, from 0.
@@ -25,6 +25,6 @@ listRefusal n width s = first (
     ∷ []
     )
 
--- "then entries in order, and the first entry that breaks a rule ends the check": a rule says of i whether entry i breaks it
+-- "then entries in order, and the first entry that breaks a rule ends the check": whether entry i breaks it, for any i
 unfoldable pub entriesRefusal : (ℕ → Bool) → ℕ → ℕ → List ℕ → Refusal
 entriesRefusal breaks number n s = first (listRefusal n 8 s ∷ each (λ i. check (breaks i) number (8 + 8 * i)) 0 n ∷ [])

@@ -2,11 +2,11 @@
 -- Assumes nothing.
 use mathlib.Core.Path.{_≡_}
 use Prim.Native.Nat.{ℕ, _+_, _-_, _<_}
-use mathlib.Core.Bool.{Bool, not, _||_}
+use mathlib.Core.Bool.{Bool, not, _||_, cond}
 use mathlib.Core.List.{List}
 use lib.Dec.{ltb, leb, eqb}
 use Rattle.answers.specs.Refusals.{tileOffsets}
-use Rattle.answers.specs.Runs.{pick, sum}
+use Rattle.answers.specs.Runs.{sum}
 use Rattle.answers.specs.declared.Refusal.{Refusal}
 use Rattle.lists.specs.declared.TileOffsets.{TileOffsets}
 use Rattle.lists.specs.declared.Extent.{Extent}
@@ -14,7 +14,7 @@ use Rattle.lists.specs.Lists.{entry, entriesRefusal}
 
 -- "Offsets, with data file size S: the first is 0, each later one above the one before, all below S, else 18."
 abbrev pub offsetBreaks : ℕ → (ℕ → ℕ) → ℕ → Bool
-offsetBreaks S offset i = pick (eqb i 0) (not (eqb (offset i) 0)) (leb (offset i) (offset (i - 1))) || leb S (offset i)
+offsetBreaks S offset i = cond (eqb i 0) (not (eqb (offset i) 0)) (leb (offset i) (offset (i - 1))) || leb S (offset i)
 
 unfoldable pub offsetsRefusal : ℕ → ℕ → List ℕ → Refusal
 offsetsRefusal n S s = entriesRefusal (offsetBreaks S (entry s)) tileOffsets n s
@@ -23,18 +23,18 @@ offsetsRefusal n S s = entriesRefusal (offsetBreaks S (entry s)) tileOffsets n s
 abbrev pub offsetsAnswer : ℕ → ℕ → List ℕ → TileOffsets
 offsetsAnswer n S s =
     let r = offsetsRefusal n S s in
-    record { number = r .number; place = r .place; tiles = pick (eqb (r .number) 0) n 0 }
+    record { number = r .number; place = r .place; tiles = cond (eqb (r .number) 0) n 0 }
 
 -- "Tile i's extent runs to the next offset, the last one's to S"
 abbrev pub endOf : ℕ → ℕ → List ℕ → ℕ → ℕ
-endOf n S s i = pick (ltb (i + 1) n) (entry s (i + 1)) S
+endOf n S s i = cond (ltb (i + 1) n) (entry s (i + 1)) S
 
 -- "a further request for tile i gets its offset and extent, both 0 where .. i isn't below n"
 unfoldable pub offsetOf : ℕ → List ℕ → ℕ → ℕ
-offsetOf n s i = pick (ltb i n) (entry s i) 0
+offsetOf n s i = cond (ltb i n) (entry s i) 0
 
 unfoldable pub extentOf : ℕ → ℕ → List ℕ → ℕ → ℕ
-extentOf n S s i = pick (ltb i n) (endOf n S s i - entry s i) 0
+extentOf n S s i = cond (ltb i n) (endOf n S s i - entry s i) 0
 
 -- of any bytes, also where the list would be refused
 abbrev pub extentAt : ℕ → ℕ → List ℕ → ℕ → Extent
@@ -42,7 +42,8 @@ extentAt n S s i = record { offset = offsetOf n s i; extent = extentOf n S s i }
 
 -- "both 0 where the list is refused or i isn't below n"
 abbrev pub extentAnswer : ℕ → ℕ → List ℕ → ℕ → Extent
-extentAnswer n S s i = pick (eqb (offsetsRefusal n S s .number) 0) (extentAt n S s i) (record { offset = 0; extent = 0 })
+extentAnswer n S s i =
+    cond (eqb (offsetsRefusal n S s .number) 0) (extentAt n S s i) (record { offset = 0; extent = 0 })
 
 -- "all extents add up to S"; none is empty; each tile's bytes end where the next one's start, and the last one's at S
 pub record Extents (n S : ℕ) (s : List ℕ) : Type 0 where

@@ -1,11 +1,11 @@
 -- When are tile sizes refused, and what do they add up to?
 -- Assumes nothing.
 use Prim.Native.Nat.{ℕ, _+_, _-_, _^_}
-use mathlib.Core.Bool.{Bool}
+use mathlib.Core.Bool.{Bool, cond}
 use mathlib.Core.List.{List}
 use lib.Dec.{ltb, eqb}
-use Rattle.answers.specs.Refusals.{sum as sumNumber}
-use Rattle.answers.specs.Runs.{pick, sum}
+use Rattle.answers.specs.Refusals.{sizesSum}
+use Rattle.answers.specs.Runs.{sum}
 use Rattle.answers.specs.declared.Refusal.{Refusal}
 use Rattle.lists.specs.declared.TileSizes.{TileSizes}
 use Rattle.lists.specs.Lists.{entry, entriesRefusal}
@@ -15,10 +15,10 @@ abbrev pub sizeBreaks : (ℕ → ℕ) → ℕ → Bool
 sizeBreaks size i = ltb (2 ^ 64 - 1) (sum size 0 (i + 1))
 
 unfoldable pub sizesRefusal : ℕ → List ℕ → Refusal
-sizesRefusal n s = entriesRefusal (sizeBreaks (entry s)) sumNumber n s
+sizesRefusal n s = entriesRefusal (sizeBreaks (entry s)) sizesSum n s
 
 -- "the answer is their sum": a refusal has 0 there
 abbrev pub sizesAnswer : ℕ → List ℕ → TileSizes
 sizesAnswer n s =
     let r = sizesRefusal n s in
-    record { number = r .number; place = r .place; sum = pick (eqb (r .number) 0) (sum (entry s) 0 n) 0 }
+    record { number = r .number; place = r .place; sum = cond (eqb (r .number) 0) (sum (entry s) 0 n) 0 }

@@ -1,15 +1,14 @@
 // Tile offsets and tile sizes: checking a list, a tile's offset and extent, the sum of the sizes.
 use answers::Refusal;
-use boxes::Description;
+use description::Description;
 ghost use mathlib.Core.Path.{_≡_};
-ghost use Prim.Native.Nat.{_+_, _-_, _*_, _≤_, _<_};
-ghost use mathlib.Core.Bool.{false};
+ghost use Prim.Native.Nat.{_+_, _-_, _*_, _^_, _≤_, _<_};
 ghost use lib.ListN.{length};
 ghost use Rattle.order.specs.Little.{little};
 ghost use Rattle.lists.specs.Lists.{entry, listRefusal};
-ghost use Rattle.lists.specs.Offsets.{offsetsRefusal, offsetsAnswer, endOf, extentAt, extentAnswer, Extents};
+ghost use Rattle.lists.specs.Offsets.{offsetsAnswer, endOf, extentAt, extentAnswer, Extents};
 ghost use Rattle.lists.specs.Sizes.{sizesAnswer};
-ghost use Rattle.lists.specs.Rules.{carried, breaks, after, Outcome};
+ghost use Rattle.lists.specs.Code.Rules.{ruleNumber, breaks, after, outcome, loopAnswer, entriesAnswer};
 
 // Number 0: not refused. An accepted list answers n.
 pub struct TileOffsets {
@@ -36,39 +35,24 @@ pub fn open_offsets(body: &[u8], tiles: u64, size: u64) -> TileOffsets
     ensures answer { λ r. ⌜ r ≡ offsetsAnswer tiles size (now (body .entry)) ⌝ }
     ensures extents { λ r. ⌜ (r .number ≡ 0 → Extents tiles size (now (body .entry))) ⌝ }
 {
-    let found = check_offsets(body, tiles, size);
-    let number = found.number;
-    let place = found.place;
-    if number != 0 {
-        return TileOffsets {
-            number,
-            place,
-            tiles: 0,
-        };
-    }
+    let list = check_entries(body, tiles, Rule::Offsets(size));
+    let number = list.number;
     TileOffsets {
         number,
-        place,
-        tiles,
+        place: list.place,
+        tiles: if number == 0 { tiles } else { 0 },
     }
 }
 
-// Tile i's offset and extent, after the whole list is checked.
+// Tile i's offset and extent, after the whole list is checked: a refused one answers 0 tiles, and has no tile i.
 pub fn tile_extent(body: &[u8], tiles: u64, size: u64, i: u64) -> Extent
     ensures { λ r. ⌜ r ≡ extentAnswer tiles size (now (body .entry)) i ⌝ }
 {
-    let list = check_offsets(body, tiles, size);
-    let refused = list.number;
-    if refused != 0 {
-        return Extent {
-            offset: 0,
-            extent: 0,
-        };
-    }
-    extent_at(body, tiles, size, i)
+    let list = open_offsets(body, tiles, size);
+    extent_at(body, list.tiles, size, i)
 }
 
-// Tile i's offset and extent with no check of the list, for one that is known to be accepted: then it is what `tile_extent` answers.
+// The same with no check of the list, for one that is known to be accepted.
 pub fn extent_at(body: &[u8], tiles: u64, size: u64, i: u64) -> Extent
     ensures { λ r. ⌜ r ≡ extentAt tiles size (now (body .entry)) i ⌝ }
 {
@@ -88,28 +72,11 @@ pub fn extent_at(body: &[u8], tiles: u64, size: u64, i: u64) -> Extent
 pub fn open_sizes(body: &[u8], tiles: u64) -> TileSizes
     ensures { λ r. ⌜ r ≡ sizesAnswer tiles (now (body .entry)) ⌝ }
 {
-    let header = check_list(body, tiles, 8);
-    let number = header.number;
-    let place = header.place;
-    if number != 0 {
-        return TileSizes {
-            number,
-            place,
-            sum: 0,
-        };
-    }
-    let n = tiles as usize;
-    match scan(body, 0, n, Rule::Sizes, 0) {
-        Scanned::Bad(at) => TileSizes {
-            number: Refusal::SUM,
-            place: at as u64,
-            sum: 0,
-        },
-        Scanned::Whole(sum) => TileSizes {
-            number: 0,
-            place: 0,
-            sum,
-        },
+    let list = check_entries(body, tiles, Rule::Sizes);
+    TileSizes {
+        number: list.number,
+        place: list.place,
+        sum: list.value,
     }
 }
 
@@ -117,79 +84,122 @@ pub fn open_sizes(body: &[u8], tiles: u64) -> TileSizes
 pub fn check_list(body: &[u8], tiles: u64, width: u32) -> Refusal
     ensures { λ r. ⌜ r ≡ listRefusal tiles width (now (body .entry)) ⌝ }
 {
-    let length = body.len() as u64;
-    if boxes::outside(Description::LEAST_TILES, Description::MOST_TILES, tiles) {
+    if description::outside(Description::LEAST_TILES, Description::MOST_TILES, tiles) {
         return Refusal::new(Refusal::TILES, 0);
     }
-    if length < 8 {
-        return Refusal::new(Refusal::BYTES, length);
-    }
-    let count = order::u64_at(body, 0);
-    if count != tiles {
-        return Refusal::new(Refusal::COUNT, 0);
-    }
+    let length = body.len() as u64;
     let total = 8 + width as u64 * tiles;
-    if length != total {
-        return Refusal::new(Refusal::BYTES, length);
-    }
-    Refusal::none()
+    let count = order::u64_at(body, 0);
+    let few = Refusal::when(length < 8, Refusal::BYTES, length);
+    let other_count = Refusal::when(count != tiles, Refusal::COUNT, 0);
+    let other_length = Refusal::when(length != total, Refusal::BYTES, length);
+    few.or(other_count).or(other_length)
 }
 
-// The first offset is tested here, since its rule is its own.
-fn check_offsets(body: &[u8], tiles: u64, size: u64) -> Refusal
-    ensures { λ r. ⌜ r ≡ offsetsRefusal tiles size (now (body .entry)) ⌝ }
-{
-    let header = check_list(body, tiles, 8);
-    let number = header.number;
-    if number != 0 {
-        return header;
-    }
-    let first = order::u64_at(body, 8);
-    if 0 < first {
-        return Refusal::new(Refusal::TILE_OFFSETS, 8);
-    }
-    if size <= first {
-        return Refusal::new(Refusal::TILE_OFFSETS, 8);
-    }
-    let n = tiles as usize;
-    match scan(body, 1, n, Rule::Offsets(size), first) {
-        Scanned::Bad(at) => Refusal::new(Refusal::TILE_OFFSETS, at as u64),
-        Scanned::Whole(_) => Refusal::none(),
-    }
-}
-
-// What the entries of a list keep to. Offsets, after the first: each above the one before, and below S. Sizes: their sum fits.
+// What the entries of a list keep to. Offsets: the first is 0, each later one above the one before, all below S. Sizes:
+// their sum fits.
 enum Rule {
     Offsets(u64),
     Sizes,
 }
 
-// Whole: what was carried past the last entry, for sizes their sum. Bad: where the first entry that breaks the rule starts.
+// Number 0: not refused. The value is what was carried past the last entry, for sizes their sum, and 0 where the list
+// is refused.
+struct Checked {
+    number: u64,
+    place: u64,
+    value: u64,
+}
+
+fn check_entries(body: &[u8], tiles: u64, rule: Rule) -> Checked
+    ensures { λ r. ⌜ r ≡ entriesAnswer rule tiles (now (body .entry)) ⌝ }
+{
+    let header = check_list(body, tiles, 8);
+    let number = header.number;
+    if number != 0 {
+        return Checked {
+            number,
+            place: header.place,
+            value: 0,
+        };
+    }
+    match scan(body, tiles as usize, rule) {
+        Scanned::Bad(at) => Checked {
+            number: number_of(rule),
+            place: at as u64,
+            value: 0,
+        },
+        Scanned::Whole(value) => Checked {
+            number: 0,
+            place: 0,
+            value,
+        },
+    }
+}
+
+// Whole: what was carried past the last entry. Bad: where the first entry that breaks the rule starts.
 enum Scanned {
     Whole(u64),
     Bad(usize),
 }
 
-// Goes through the entries until one breaks the rule. What is carried from entry to entry is the offset before, or the sum so far.
-// The place is the only counter: a second one, the entry's number, costs 15 % of the speed.
-fn scan(body: &[u8], from: usize, n: usize, rule: Rule, start: u64) -> Scanned
-    requires { ⌜ (from ≤ n) × (8 + 8 * n ≤ length (now body)) ⌝ }
-    requires { ⌜ start ≡ carried rule (entry (now body)) from ⌝ }
-    ensures { λ r. ⌜ Outcome rule (entry (now (body .entry))) from n r ⌝ }
+// Goes through the entries until one breaks the rule. What is carried from entry to entry is the offset before, or the
+// sum so far. The place is the only counter: a second one, the entry's number, costs 15 % of the speed.
+fn scan(body: &[u8], n: usize, rule: Rule) -> Scanned
+    requires { ⌜ 8 + 8 * n ≤ length (now body) ⌝ }
+    ensures { λ r. ⌜ outcome rule r ≡ loopAnswer rule (entry (now (body .entry))) n ⌝ }
 {
     let end = 8 + 8 * n;
-    let mut at = 8 + 8 * from;
-    let mut carried = start;
+    let mut at = 8;
+    let mut carried = 0;
     loop {
         if end <= at {
             break Scanned::Whole(carried);
         }
         let x = word(body, at);
-        if breaks(rule, carried, x) {
+        if breaks(rule, at, carried, x) {
             break Scanned::Bad(at);
         }
         carried = after(rule, carried, x);
         at += 8;
+    }
+}
+
+// The refusal that a broken rule is.
+fn number_of(rule: Rule) -> u64
+    ensures { λ r. ⌜ r ≡ ruleNumber rule ⌝ }
+{
+    match rule {
+        Rule::Offsets(_) => Refusal::TILE_OFFSETS,
+        Rule::Sizes => Refusal::SIZES_SUM,
+    }
+}
+
+// For sizes the test comes before the addition, which then fits. The first offset, at 8, has a rule of its own, and the
+// compiler takes that turn out of the loop. The test against S comes first: in the other order the compiled loop has a
+// branch that can straddle two cache lines; linked so, it was measured 1.3 to 3 times slower.
+fn breaks(rule: Rule, at: usize, carried: u64, x: u64) -> bool
+    ensures { λ r. ⌜ r ≡ breaks rule at carried x ⌝ }
+{
+    match rule {
+        Rule::Offsets(size) => if size <= x {
+            true
+        } else if at == 8 {
+            x != 0
+        } else {
+            x <= carried
+        },
+        Rule::Sizes => 0xFFFF_FFFF_FFFF_FFFF - carried < x,
+    }
+}
+
+fn after(rule: Rule, carried: u64, x: u64) -> u64
+    requires { ⌜ after rule carried x < 2 ^ 64 ⌝ }
+    ensures { λ r. ⌜ r ≡ after rule carried x ⌝ }
+{
+    match rule {
+        Rule::Offsets(_) => x,
+        Rule::Sizes => carried + x,
     }
 }
 
@@ -200,27 +210,6 @@ fn word(body: &[u8], at: usize) -> u64
 {
     let end = at + 8;
     order::u64_at(&body[at..end], 0)
-}
-
-// For sizes the test comes before the addition, which then fits. For offsets the test against S comes first: in the other order the
-// compiled loop has a branch that can straddle two cache lines; linked so, it was measured 1.3 to 3 times slower.
-fn breaks(rule: Rule, carried: u64, x: u64) -> bool
-    ensures { λ r. ⌜ r ≡ breaks rule carried x ⌝ }
-{
-    match rule {
-        Rule::Offsets(size) => if size <= x { true } else { x <= carried },
-        Rule::Sizes => 0xFFFF_FFFF_FFFF_FFFF - carried < x,
-    }
-}
-
-fn after(rule: Rule, carried: u64, x: u64) -> u64
-    requires { ⌜ breaks rule carried x ≡ false ⌝ }
-    ensures { λ r. ⌜ r ≡ after rule carried x ⌝ }
-{
-    match rule {
-        Rule::Offsets(_) => x,
-        Rule::Sizes => carried + x,
-    }
 }
 
 // Where tile i's bytes end: at the next offset, the last one's at S.

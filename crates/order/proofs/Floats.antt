@@ -1,13 +1,13 @@
--- In which order are two floats? In that of their patterns' keys: IEEE 754's comparisons, as the logic defines them, are those of the keys, in
--- either format. A pattern that is no NaN's is read as an infinity or as a finite value, and in each of the four cases of two patterns the
--- comparison is that of a sign and a magnitude. Assumes nothing.
+-- In which order are two floats? In that of their patterns' keys: IEEE 754's `le`, as the logic defines it, is that of
+-- the keys, in either format. A pattern that is no NaN's is read as an infinity or as a finite value, and in each of
+-- the four cases of two patterns the comparison is that of a sign and a magnitude. Assumes nothing.
 use mathlib.Core.Path.{_≡_, refl, sym, ap, _∙_, subst}
 use mathlib.Core.Logic.{_⊎_, inl, inr}
 use Prim.Native.Nat.{ℕ, zero, suc, _+_, _-_, _*_, _/_, _%_, _^_, _<_}
 use native.Mathlib.Nat.{le-trans, le-of-eq, lt-irrefl, eq-or-lt-of-le, le-of-lt, mul-comm, mul-assoc, mul-right-comm, mul-le-mul-right, le-of-mul-le-mul-right, mul-pos, zero-mul, zero-lt-suc, div-lt-iff-lt-mul, mod-lt, mod-mod-of-dvd, dvd-mul-right, mul-div-cancel, mul-mod-left}
 use native.Mathlib.Omega.{arith}
 use mathlib.Core.Bool.{Bool, true, false, not, _&&_, cond, true≢false}
-use lib.Dec.{T, leb, ltb, eqb, leb→le, le→leb, nltb→le, eqb→eq, not-T}
+use lib.Dec.{T, leb, eqb, leb→le, le→leb, nltb→le, eqb→eq, not-T}
 use lib.IntN.{ℤ}
 use lib.Pow.{pow-pos}
 use lib.Ieee.{Float, nan, inf, fin, Format, prec, emax, low, up, down, odd, lt, eq, le, hid, ones, top, ofFields, ofBits, toBits, nanBits, isNan, fits}
@@ -17,8 +17,8 @@ use lib.Ieee.Fits.{down-pos}
 use denote.Floats.{passes}
 use borrow.Author.Tests.{eq-eqb}
 use Rattle.order.specs.Key.{floatKey, floatAtMost}
-use Rattle.order.proofs.Tests.{same-test, no-and, clash, not-leb, eq-by-leb}
-use Rattle.order.proofs.Sides.{atMost, atMost-cong, level-is, below-is, either-is, about-middle}
+use Rattle.order.proofs.Tests.{same-test, no-and, clash}
+use Rattle.order.proofs.Sides.{atMost, atMost-cong, either-is, about-middle}
 use Rattle.order.proofs.Worth.{worth, size, size-leb, size-leb-zero}
 
 -- ---- two finite values, by what they are worth over one denominator
@@ -153,43 +153,7 @@ le-read f x y s t q r (inr h) (inr k) =
     le-values x y s t (size p q) (size p r) (2 ^ low f) (pow-pos (low f)) (h .1) (k .1)
     ∙ atMost-cong s t (size p q) (size p r) q r (size-leb p q r) (size-leb p r q) (size-leb-zero p q) (size-leb-zero p r)
 
--- ---- `lt` and `eq` by `le`
-lt-by-le : (x y : Float) → isNan x ≡ false → isNan y ≡ false → lt x y ≡ not (le y x)
-unfolding le lt eq isNan
-lt-by-le nan y h k = absurd (true≢false h)
-lt-by-le (inf s) nan h k = absurd (true≢false k)
-lt-by-le (inf true) (inf true) h k = refl
-lt-by-le (inf true) (inf false) h k = refl
-lt-by-le (inf false) (inf true) h k = refl
-lt-by-le (inf false) (inf false) h k = refl
-lt-by-le (inf true) (fin t n d) h k = refl
-lt-by-le (inf false) (fin t n d) h k = refl
-lt-by-le (fin s m e) nan h k = absurd (true≢false k)
-lt-by-le (fin s m e) (inf true) h k = refl
-lt-by-le (fin s m e) (inf false) h k = refl
-lt-by-le (fin s m e) (fin t n d) h k =
-    below-is s t (m * up e * down d) (n * up d * down e)
-    ∙ ap not (sym (either-is t s (n * up d * down e) (m * up e * down d)))
-
-eq-by-le : (x y : Float) → eq x y ≡ (le x y && le y x)
-unfolding le lt eq
-eq-by-le nan y = refl
-eq-by-le (inf s) nan = refl
-eq-by-le (inf true) (inf true) = refl
-eq-by-le (inf true) (inf false) = refl
-eq-by-le (inf false) (inf true) = refl
-eq-by-le (inf false) (inf false) = refl
-eq-by-le (inf true) (fin t n d) = refl
-eq-by-le (inf false) (fin t n d) = refl
-eq-by-le (fin s m e) nan = refl
-eq-by-le (fin s m e) (inf true) = refl
-eq-by-le (fin s m e) (inf false) = refl
-eq-by-le (fin s m e) (fin t n d) =
-    let a = m * up e * down d in
-    let b = n * up d * down e in
-    level-is s t a b ∙ (λ i. sym (either-is s t a b) i && sym (either-is t s b a) i)
-
--- ---- the laws, for two patterns that are no NaN's
+-- ---- the law, for two patterns that are no NaN's
 top-pos : (f : Format) → 0 < top f
 top-pos f = mul-pos (pow-pos (prec f - 1)) (zero-lt-suc (ones f))
 
@@ -198,18 +162,6 @@ unfolding floatKey
 le-by-key f a b h k =
     le-read f (ofBits f a) (ofBits f b) (leb (top f) a) (leb (top f) b) (a % top f) (b % top f) (reads f a h) (reads f b k)
     ∙ about-middle (top f) (leb (top f) a) (leb (top f) b) (a % top f) (b % top f) (le-of-lt (mod-lt a (top-pos f))) (le-of-lt (mod-lt b (top-pos f)))
-
-pub lt-by-key : (f : Format) (a b : ℕ) → nanBits f a ≡ false → nanBits f b ≡ false → lt (ofBits f a) (ofBits f b) ≡ ltb (floatKey f a) (floatKey f b)
-lt-by-key f a b h k =
-    lt-by-le (ofBits f a) (ofBits f b) (sym (nanBits-is f a) ∙ h) (sym (nanBits-is f b) ∙ k)
-    ∙ ap not (le-by-key f b a k h)
-    ∙ not-leb (floatKey f a) (floatKey f b)
-
-pub eq-by-key : (f : Format) (a b : ℕ) → nanBits f a ≡ false → nanBits f b ≡ false → eq (ofBits f a) (ofBits f b) ≡ eqb (floatKey f a) (floatKey f b)
-eq-by-key f a b h k =
-    eq-by-le (ofBits f a) (ofBits f b)
-    ∙ (λ i. le-by-key f a b h k i && le-by-key f b a k h i)
-    ∙ sym (eq-by-leb (floatKey f a) (floatKey f b))
 
 -- ---- the same of any two patterns, and of any two values of the format: at a NaN `le` is false
 nan-left : (x y : Float) → isNan x ≡ true → le x y ≡ false

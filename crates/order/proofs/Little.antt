@@ -1,4 +1,5 @@
--- What do the bytes of a part stand for, and how large is it? Laws of `little`, over the number of bytes. Assumes nothing.
+-- What do the bytes of a part stand for, and how large is it? Laws of `little`, over the number of bytes. Assumes
+-- nothing.
 use mathlib.Core.Path.{_≡_, refl, _∙_}
 use mathlib.Core.List.{List}
 use Prim.Native.Nat.{ℕ, zero, suc, _+_, _*_, _^_, _≤_, _<_}
@@ -8,7 +9,7 @@ use native.Mathlib.Omega.{arith}
 use lib.Dec.{lit<}
 use lib.ListN.{length, getD, take, drop, List·getD-eq-default}
 use lib.Seq.{getD-take, getD-drop}
-use mir.Syntax.{w8, w32, w64}
+use mir.Syntax.{w8, w32}
 use mir.Val.{Fits}
 use Rattle.order.specs.Little.{little}
 
@@ -27,9 +28,6 @@ module _ (s : List ℕ) (byte : (i : ℕ) → Fits w8 (getD s i 0)) where
 
   pub four-fit : (at : ℕ) → Fits w32 (little s at 4)
   four-fit at = record { fits = little-lt at 4 }
-
-  pub eight-fit : (at : ℕ) → Fits w64 (little s at 8)
-  eight-fit at = record { fits = little-lt at 8 }
 
 -- ---- a part of the bytes
 pub little-drop : (s : List ℕ) (a at m : ℕ) → little (drop a s) at m ≡ little s (a + at) m

@@ -1,7 +1,7 @@
--- Two numbers one after the other: what they are where their bytes are all there, what they are where not, and how large. Laws over the number
--- of bytes.
+-- Two numbers one after the other: what they are where their bytes are all there, what they are where not, and how
+-- large. Laws over the number of bytes.
 -- Assumes nothing.
-use mathlib.Core.Path.{_≡_, sym, _∙_}
+use mathlib.Core.Path.{_≡_, _∙_}
 use mathlib.Core.Bool.{Bool, true, false, cond}
 use mathlib.Core.List.{List}
 use Prim.Native.Nat.{ℕ, _+_, _^_, _≤_, _<_}

@@ -1,16 +1,16 @@
--- Which of two numbers is at most the other, where each is a sign and a magnitude? What the logic's comparisons of finite floats test
--- comes to `atMost`, and that to the order about a middle. Assumes nothing.
+-- Which of two numbers is at most the other, where each is a sign and a magnitude? What the logic's comparisons of
+-- finite floats test comes to `atMost`, and that to the order about a middle. Assumes nothing.
 use mathlib.Core.Path.{_≡_, refl, sym, ap, _∙_}
 use mathlib.Core.Logic.{inl, inr}
-use mathlib.Core.Bool.{Bool, true, false, not, _&&_, _||_}
-use Prim.Native.Nat.{ℕ, _+_, _-_, _≤_, _<_}
+use mathlib.Core.Bool.{Bool, true, false, _&&_, _||_}
+use Prim.Native.Nat.{ℕ, _+_, _-_, _≤_}
 use native.Mathlib.Omega.{arith}
-use lib.Dec.{leb, ltb, eqb, leb→le, le→leb, ltb→lt, lt→ltb, eqb→eq, not-T, T-not}
+use lib.Dec.{leb, ltb, eqb, leb→le, le→leb, lt→ltb, eqb→eq}
 use lib.Ieee.{below, level}
 use lib.Ieee.Bits.{is-true}
 use lib.Ieee.Fits.{and-i, and-l, and-r, eq→eqb}
 use Rattle.order.specs.Key.{about}
-use Rattle.order.proofs.Tests.{same-test, or-l, or-r, zero-or-more, not-leb, lt-or-eq, eq-by-leb}
+use Rattle.order.proofs.Tests.{same-test, or-l, or-r, zero-or-more, lt-or-eq}
 
 abbrev pub atMost : Bool → ℕ → Bool → ℕ → Bool
 atMost false a false b = leb a b
@@ -26,15 +26,10 @@ atMost-cong false true a b c d p q x y = λ i. x i && y i
 atMost-cong true false a b c d p q x y = refl
 atMost-cong true true a b c d p q x y = q
 
--- ---- the logic's tests of two finite values: less, equal, less or equal
+-- ---- the logic's test of two finite values: less or equal
 and-true : (a : Bool) → (a && true) ≡ a
 and-true true = refl
 and-true false = refl
-
-and-swap : (a b : Bool) → (a && b) ≡ (b && a)
-and-swap true b = sym (and-true b)
-and-swap false true = refl
-and-swap false false = refl
 
 both-zero : (a b : ℕ) → (eqb a b && eqb a 0) ≡ (leb a 0 && leb b 0)
 both-zero a b =
@@ -47,27 +42,6 @@ both-zero a b =
     let x : a ≤ 0 = leb→le a 0 (and-l (leb a 0) (leb b 0) k) in
     let y : b ≤ 0 = leb→le b 0 (and-r (leb a 0) (leb b 0) k) in
     and-i (eqb a b) (eqb a 0) (omega (arith, eq→eqb)) (omega (arith, eq→eqb)))
-
-pub level-is : (s t : Bool) (a b : ℕ) → level s a t b ≡ (atMost s a t b && atMost t b s a)
-level-is false false a b = and-true (eqb a b) ∙ eq-by-leb a b
-level-is false true a b = both-zero a b ∙ sym (and-true (leb a 0 && leb b 0))
-level-is true false a b = both-zero a b ∙ and-swap (leb a 0) (leb b 0)
-level-is true true a b = and-true (eqb a b) ∙ eq-by-leb a b ∙ and-swap (leb a b) (leb b a)
-
-pub below-is : (s t : Bool) (a b : ℕ) → below s a t b ≡ not (atMost t b s a)
-below-is false false a b = sym (not-leb a b)
-below-is false true a b = refl
-below-is true false a b =
-    same-test (ltb 0 (a + b)) (not (leb b 0 && leb a 0))
-    (λ k. not-T (leb b 0 && leb a 0) (λ u. none (ltb→lt 0 (a + b) k) (leb→le b 0 (and-l (leb b 0) (leb a 0) u)) (leb→le a 0 (and-r (leb b 0) (leb a 0) u))))
-    (λ k. elim (zero-or-more (a + b)) [
-      | inl z ↦ absurd (T-not (leb b 0 && leb a 0) k (and-i (leb b 0) (leb a 0) (omega (arith, le→leb)) (omega (arith, le→leb))))
-      | inr p ↦ lt→ltb 0 (a + b) p
-    ])
-  where
-    none : 0 < a + b → b ≤ 0 → a ≤ 0 → ⊥
-    none l x y = omega arith
-below-is true true a b = sym (not-leb b a)
 
 pub either-is : (s t : Bool) (a b : ℕ) → (below s a t b || level s a t b) ≡ atMost s a t b
 either-is false false a b = ap (λ (x : Bool). ltb a b || x) (and-true (eqb a b)) ∙ lt-or-eq a b

@@ -1,19 +1,20 @@
 -- In which order are two signed numbers, and how is one read without a cast that wraps? In two's complement at any width, the numbers' order
 -- is that of their patterns' keys, and a pattern of the upper half is read as its distance into that half, less the half. Assumes nothing.
-use mathlib.Core.Path.{_≡_, sym, ap, _∙_, subst}
+use mathlib.Core.Path.{_≡_, refl, sym, ap, _∙_, subst}
+use mathlib.Core.Bool.{true, false, true≢false}
 use mathlib.Core.Logic.{_⊎_, inl, inr}
 use Prim.Native.Nat.{ℕ, suc, _+_, _-_, _*_, _%_, _^_, _≤_, _<_}
 use native.Mathlib.Nat.{mod-eq-of-lt, mod-eq-sub-mod, le-refl}
 use native.Mathlib.Omega.{arith}
 use lib.Dec.{T, leb, leb→le, le→leb, not-T}
-use lib.IntN.{ℤ, negsuc, _+ℤ_}
-use lib.Signed.{leZ}
+use lib.IntN.{ℤ, pos, negsuc, natAbs, _+ℤ_, _-ℤ_}
+use lib.Signed.{mag, nonNeg, ltZ, leZ}
 use lib.Pow.{pow-pos}
 use lib.Ieee.Bits.{is-true, is-false}
 use mir.Syntax.{Width}
 use mir.Val.{bits, hbits, Fits, SFits, toZ, ofZ}
-use mir.ValLaws.{pow-bits, toZ-pos, toZ-neg, toZ-ofZ, toZ-fits, ofZ-fits}
-use borrow.Author.Tests.{lt-ltb}
+use mir.ValLaws.{pow-bits, half-full, toZ-pos, toZ-neg, toZ-ofZ, toZ-fits, ofZ-fits}
+use borrow.Author.Tests.{lt-ltb, le-ltb}
 use Rattle.order.specs.Key.{signedKey, signedAtMost}
 use Rattle.order.proofs.Tests.{same-test, under-or-not}
 
@@ -118,3 +119,52 @@ module _ (w : Width) (p : ℕ) (l : half w ≤ p) (f : Fits w p) where
 
   pub upper-read : toZ w (ofZ w (toZ w (p - half w) +ℤ toZ w (half w))) ≡ toZ w p
   upper-read = toZ-ofZ w (toZ w (p - half w) +ℤ toZ w (half w)) upper-fits ∙ upper-sum
+
+-- ---- the pattern of a number x: of one below 0 it is -1 - x taken from the highest pattern. A local holds bits, so x is read from its own
+module _ (w : Width) (x : ℤ) (f : SFits w x) where
+  abbrev kept : ℤ
+  kept = toZ w (ofZ w x)
+
+  abbrev Cast : ℤ → Type 0
+  Cast z = T (nonNeg z) × Fits w (natAbs z)
+
+  as-natural : (z : ℤ) → z ≡ pos (mag x) → Cast z
+  as-natural z e = rw e (tt, record { fits = half-full w (f .sfits) })
+
+  module _ (l : ltZ kept (pos 0) ≡ true) where
+    turned : negsuc 0 -ℤ kept ≡ pos (mag x)
+    turned = rw (toZ-ofZ w x f) (go x (rw (toZ-ofZ w x f) at l))
+      where
+        go : (z : ℤ) → ltZ z (pos 0) ≡ true → negsuc 0 -ℤ z ≡ pos (mag z)
+        go (pos n) h = absurd (true≢false (sym h ∙ le-ltb n 0 (omega arith)))
+        go (negsuc n) h = rw (le-ltb (suc n) 1 (omega arith)) (ap pos (omega arith))
+
+    pub turned-fits : SFits w (negsuc 0 -ℤ kept)
+    turned-fits = rw turned (record { sfits = f .sfits })
+
+    turned-kept : toZ w (ofZ w (negsuc 0 -ℤ kept)) ≡ pos (mag x)
+    turned-kept = toZ-ofZ w (negsuc 0 -ℤ kept) turned-fits ∙ turned
+
+    pub turned-cast : Cast (toZ w (ofZ w (negsuc 0 -ℤ kept)))
+    turned-cast = as-natural (toZ w (ofZ w (negsuc 0 -ℤ kept))) turned-kept
+
+    pub turned-bits : 2 ^ bits w - 1 - natAbs (toZ w (ofZ w (negsuc 0 -ℤ kept))) ≡ ofZ w x
+    turned-bits = rw turned-kept (go x (rw (toZ-ofZ w x f) at l))
+      where
+        go : (z : ℤ) → ltZ z (pos 0) ≡ true → 2 ^ bits w - 1 - mag z ≡ ofZ w z
+        go (pos n) h = absurd (true≢false (sym h ∙ le-ltb n 0 (omega arith)))
+        go (negsuc n) h = omega arith
+
+  module _ (l : ltZ kept (pos 0) ≡ false) where
+    natural : x ≡ pos (mag x)
+    natural = go x (rw (toZ-ofZ w x f) at l)
+      where
+        go : (z : ℤ) → ltZ z (pos 0) ≡ false → z ≡ pos (mag z)
+        go (pos n) h = refl
+        go (negsuc n) h = absurd (true≢false h)
+
+    pub natural-cast : Cast kept
+    natural-cast = as-natural kept (toZ-ofZ w x f ∙ natural)
+
+    pub natural-bits : natAbs kept ≡ ofZ w x
+    natural-bits = rw (toZ-ofZ w x f) (rw natural refl)

@@ -4,10 +4,9 @@ use mathlib.Core.Logic.{_⊎_, inl, inr}
 use mathlib.Core.Bool.{Bool, true, false, not, _&&_, _||_}
 use Prim.Native.Nat.{ℕ, zero, suc, _≤_, _<_}
 use native.Mathlib.Nat.{not-le-of-lt, zero-lt-suc, le-of-eq, le-of-lt, eq-or-lt-of-le}
-use native.Mathlib.Omega.{arith}
 use lib.Dec.{T, leb, ltb, eqb, leb→le, le→leb, ltb→lt, lt→ltb, nleb→lt, nltb→le, eqb→eq, not-T}
 use lib.Ieee.Bits.{is-false}
-use lib.Ieee.Fits.{and-i, and-l, and-r, eq→eqb}
+use lib.Ieee.Fits.{and-l, and-r, eq→eqb}
 
 -- each passes where the other does
 pub same-test : (a b : Bool) → (T a → T b) → (T b → T a) → a ≡ b
@@ -61,12 +60,3 @@ lt-or-eq a b =
       | inl e ↦ or-r (ltb a b) (eqb a b) (eq→eqb e)
       | inr l ↦ or-l (ltb a b) (eqb a b) (lt→ltb a b l)
     ])
-
-pub eq-by-leb : (a b : ℕ) → eqb a b ≡ (leb a b && leb b a)
-eq-by-leb a b =
-    same-test (eqb a b) (leb a b && leb b a)
-    (λ k. let e = eqb→eq a b k in and-i (leb a b) (leb b a) (omega (arith, le→leb)) (omega (arith, le→leb)))
-    (λ k.
-    let x = leb→le a b (and-l (leb a b) (leb b a) k) in
-    let y = leb→le b a (and-r (leb a b) (leb b a) k) in
-    omega (arith, eq→eqb))

@@ -1,5 +1,5 @@
--- What is a finite float's pattern worth? In units of the format's smallest value, a strictly growing number of its magnitude, so that
--- magnitudes compare as what they are worth does. Assumes nothing.
+-- What is a finite float's pattern worth? In units of the format's smallest value, a strictly growing number of its
+-- magnitude, so that magnitudes compare as what they are worth does. Assumes nothing.
 use mathlib.Core.Path.{_≡_, sym, ap, _∙_, subst}
 use mathlib.Core.Logic.{inl, inr}
 use Prim.Native.Nat.{ℕ, zero, suc, _+_, _*_, _/_, _%_, _^_, _≤_, _<_}
@@ -9,7 +9,8 @@ use lib.Dec.{leb, leb→le, le→leb}
 use lib.Pow.{pow-pos, pow-mono, shr-mono}
 use Rattle.order.proofs.Tests.{same-test}
 
--- by the exponent's field x and the digits t, which are below h: a field of 0 has no leading digit, and counts as a field of 1
+-- by the exponent's field x and the digits t, which are below h: a field of 0 has no leading digit, and counts as a
+-- field of 1
 abbrev pub worth : ℕ → ℕ → ℕ → ℕ
 worth h zero t = t * 2 ^ 0
 worth h (suc x) t = (h + t) * 2 ^ x

@@ -1,4 +1,4 @@
--- In which order do two bit patterns stand? Each pattern has a key, a whole number, and the keys' order is the order. Assumes nothing.
+-- In which order do two bit patterns stand? In that of their keys, which are whole numbers. Assumes nothing.
 use Prim.Native.Nat.{ℕ, _+_, _-_, _%_, _^_}
 use mathlib.Core.Bool.{Bool, not, _&&_, cond}
 use lib.Dec.{leb}
@@ -10,8 +10,8 @@ use mir.Val.{bits, hbits}
 abbrev pub about : ℕ → Bool → ℕ → ℕ
 about c s m = cond s (c - m) (c + m)
 
--- "Floats are ordered by IEEE 754 comparison: no NaN, both zeros equal, infinities allowed. Define this order from the bit patterns
--- as whole numbers." The sign is the highest bit, of weight `top f`, and the magnitude is the rest. Both zeros have the key `top f`.
+-- "Floats are ordered by IEEE 754 comparison: no NaN, both zeros equal, infinities allowed. Define this order from the
+-- bit patterns as whole numbers." The sign is the highest bit, of weight `top f`; both zeros have the key `top f`.
 unfoldable pub floatKey : Format → ℕ → ℕ
 floatKey f p = about (top f) (leb (top f) p) (p % top f)
 
@@ -19,8 +19,8 @@ floatKey f p = about (top f) (leb (top f) p) (p % top f)
 unfoldable pub floatAtMost : Format → ℕ → ℕ → Bool
 floatAtMost f a b = not (nanBits f a) && (not (nanBits f b) && leb (floatKey f a) (floatKey f b))
 
--- Two's complement: the patterns of the negative numbers follow those of the others, and adding half of all the patterns, modulo
--- all of them, puts them in front.
+-- Two's complement: the patterns of the negative numbers follow those of the others, and adding half of all the
+-- patterns, modulo all of them, puts them in front.
 unfoldable pub signedKey : Width → ℕ → ℕ
 signedKey w p = (p + 2 ^ hbits w) % 2 ^ bits w
 

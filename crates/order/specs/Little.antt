@@ -10,7 +10,7 @@ unfoldable pub little : List ℕ → ℕ → ℕ → ℕ
 little s at zero = 0
 little s at (suc m) = getD s at 0 + 256 * little s (at + 1) m
 
--- Two numbers of m bytes each, one after the other, as the ends of a range stand. Where their bytes are not all there, each counts 0.
+-- Two numbers of m bytes each, one after the other, as a range's ends stand; each 0 where their bytes aren't all there.
 unfoldable pub firstOfTwo : List ℕ → ℕ → ℕ → ℕ
 firstOfTwo s at m = cond (leb (at + (m + m)) (length s)) (little s at m) 0
 

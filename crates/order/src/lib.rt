@@ -1,5 +1,5 @@
-// What do bytes and bit patterns stand for, and in which order? Little-endian reads, the values of patterns, and comparisons
-// whose contracts speak of the patterns alone.
+// What do bytes and bit patterns stand for, and in which order? Little-endian reads, the values of patterns, and
+// comparisons whose contracts speak of the patterns alone.
 ghost use mathlib.Core.Path.{_≡_};
 ghost use Prim.Native.Nat.{_+_, _≤_, _<_};
 ghost use lib.ListN.{length};
@@ -65,8 +65,22 @@ pub fn i64_of(p: u64) -> i64
     }
 }
 
-// The value that a float's pattern stands for. `from_bits` is undefined at a NaN's pattern, so that is tested for, and dividing zero by zero
-// makes a NaN.
+// The pattern of a number, in two's complement.
+pub fn i32_bits(x: i32) -> u32
+    ensures { λ r. ⌜ r ≡ ofZ w32 x ⌝ }
+{
+    if x < 0 { !((-1 - x) as u32) } else { x as u32 }
+}
+
+// The same of 64 bits.
+pub fn i64_bits(x: i64) -> u64
+    ensures { λ r. ⌜ r ≡ ofZ w64 x ⌝ }
+{
+    if x < 0 { !((-1 - x) as u64) } else { x as u64 }
+}
+
+// The value that a float's pattern stands for. `from_bits` is undefined at a NaN's pattern, so that is tested for, and
+// dividing zero by zero makes a NaN.
 pub fn f32_of(p: u32) -> f32
     ensures { λ r. ⌜ r ≡ ofBits binary32 p ⌝ }
 {
@@ -88,8 +102,31 @@ pub fn f64_of(p: u64) -> f64
     }
 }
 
-// Whether a pattern is a NaN's: the magnitude is above the infinity's. Doubled, the pattern has lost its sign, and one addition and one comparison
-// tell it.
+// The pattern of a float. `to_bits` is undefined at a NaN, so that is tested for: of a NaN it is one pattern, the quiet
+// one with no sign.
+pub fn f32_bits(x: f32) -> u32
+    ensures { λ r. ⌜ r ≡ toBits binary32 x ⌝ }
+{
+    if f32_is_nan(x) {
+        0x7fc0_0000
+    } else {
+        f32::to_bits(x)
+    }
+}
+
+// The same of 64 bits.
+pub fn f64_bits(x: f64) -> u64
+    ensures { λ r. ⌜ r ≡ toBits binary64 x ⌝ }
+{
+    if f64_is_nan(x) {
+        0x7ff8_0000_0000_0000
+    } else {
+        f64::to_bits(x)
+    }
+}
+
+// Whether a pattern is a NaN's: the magnitude is above the infinity's. Doubled, the pattern has lost its sign, and one
+// addition and one comparison tell it.
 fn f32_nan_pattern(p: u32) -> bool
     ensures { λ r. ⌜ r ≡ nanBits binary32 p ⌝ }
 {
@@ -131,50 +168,6 @@ pub fn f64_at_most(a: f64, b: f64) -> bool
     a <= b
 }
 
-// The same, of a value's pattern and a value. A pattern that is a NaN's leaves at once: with a NaN made of it first, queries over float64 took a tenth longer.
-pub fn f32_pattern_at_most(p: u32, b: f32) -> bool
-    ensures { λ r. ⌜ r ≡ floatAtMost binary32 p (toBits binary32 b) ⌝ }
-{
-    if f32_nan_pattern(p) {
-        return false;
-    }
-    let a = f32_of(p);
-    f32_at_most(a, b)
-}
-
-// The same of 64 bits.
-pub fn f64_pattern_at_most(p: u64, b: f64) -> bool
-    ensures { λ r. ⌜ r ≡ floatAtMost binary64 p (toBits binary64 b) ⌝ }
-{
-    if f64_nan_pattern(p) {
-        return false;
-    }
-    let a = f64_of(p);
-    f64_at_most(a, b)
-}
-
-// The other way round.
-pub fn f32_at_most_pattern(a: f32, p: u32) -> bool
-    ensures { λ r. ⌜ r ≡ floatAtMost binary32 (toBits binary32 a) p ⌝ }
-{
-    if f32_nan_pattern(p) {
-        return false;
-    }
-    let b = f32_of(p);
-    f32_at_most(a, b)
-}
-
-// The same of 64 bits.
-pub fn f64_at_most_pattern(a: f64, p: u64) -> bool
-    ensures { λ r. ⌜ r ≡ floatAtMost binary64 (toBits binary64 a) p ⌝ }
-{
-    if f64_nan_pattern(p) {
-        return false;
-    }
-    let b = f64_of(p);
-    f64_at_most(a, b)
-}
-
 // A NaN alone differs from itself.
 pub fn f32_is_nan(x: f32) -> bool
     ensures { λ r. ⌜ r ≡ nanBits binary32 (toBits binary32 x) ⌝ }
@@ -200,8 +193,8 @@ pub struct Pair64 {
     pub high: u64,
 }
 
-// Two numbers of four bytes, one after the other. Where their eight bytes are not all there, both count 0: with nothing else to do there,
-// a caller's loop takes the reads in whole.
+// Two numbers of four bytes, one after the other. Where their eight bytes are not all there, both count 0: with nothing
+// else to do there, a caller's loop takes the reads in whole.
 pub fn pair32_at(s: &[u8], at: usize) -> Pair32
     ensures { λ r. ⌜ (r .low ≡ firstOfTwo (now (s .entry)) at 4) × (r .high ≡ secondOfTwo (now (s .entry)) at 4) ⌝ }
 {

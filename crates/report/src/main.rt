@@ -1,4 +1,5 @@
-// Reports what a window finds in a fragment: report DESCRIPTION FOOTER TREE OFFSETS, four files. The work is in `report_text`.
+// Reports what a window finds in a fragment: report DESCRIPTION FOOTER TREE OFFSETS, four files. The work is in
+// `report_text`.
 use libc::STDOUT_FILENO;
 ghost use Prim.Native.Nat.{_≤_};
 ghost use lib.ListN.{length};
@@ -67,67 +68,54 @@ fn read_file(i: usize, what: &[u8], buf: &mut [u8]) -> Loaded
     open_and_load(&path[..n], buf)
 }
 
+// One byte more than a file may have.
+fn file_buffer() -> [u8; 65_537] {
+    [0u8; 65_537]
+}
+
+// A line of a report has at most 58 bytes, and there are at most 8,193 lines.
+fn text_buffer() -> [u8; 500_000] {
+    [0u8; 500_000]
+}
+
 // A text that does not fit stays unwritten.
-fn print_report(description: &[u8], footer: &[u8], tree: &[u8], offsets: &[u8], out: &mut [u8]) {
-    let count = report_text::report(description, footer, tree, offsets, out);
+fn print_report(description: &[u8], footer: &[u8], tree: &[u8], offsets: &[u8]) {
+    let mut out = text_buffer();
+    let count = report_text::report(description, footer, tree, offsets, &mut out);
     if count <= out.len() {
         io::write_all(STDOUT_FILENO, &out[0..count]);
     }
 }
 
 // The other two files, and the report.
-fn run_with(
-    description: &[u8],
-    footer: &[u8],
-    tree: &mut [u8],
-    offsets: &mut [u8],
-    out: &mut [u8],
-) {
-    let c = read_file(3, b"tree", tree);
+fn run_with(description: &[u8], footer: &[u8]) {
+    let mut tree = file_buffer();
+    let c = read_file(3, b"tree", &mut tree);
     if !c.read {
         return;
     }
-    let d = read_file(4, b"offsets", offsets);
+    let mut offsets = file_buffer();
+    let d = read_file(4, b"offsets", &mut offsets);
     if !d.read {
         return;
     }
     let k = c.count;
     let l = d.count;
-    print_report(description, footer, &tree[0..k], &offsets[0..l], out);
+    print_report(description, footer, &tree[0..k], &offsets[0..l]);
 }
 
-fn run(
-    description: &mut [u8],
-    footer: &mut [u8],
-    tree: &mut [u8],
-    offsets: &mut [u8],
-    out: &mut [u8],
-) {
-    let a = read_file(1, b"description", description);
+fn main() {
+    let mut description = file_buffer();
+    let a = read_file(1, b"description", &mut description);
     if !a.read {
         return;
     }
-    let b = read_file(2, b"footer", footer);
+    let mut footer = file_buffer();
+    let b = read_file(2, b"footer", &mut footer);
     if !b.read {
         return;
     }
     let i = a.count;
     let j = b.count;
-    run_with(&description[0..i], &footer[0..j], tree, offsets, out);
-}
-
-// One byte more than a file may have. A line of a report has at most 58 bytes, and there are at most 8,193 lines.
-fn main() {
-    let mut description = [0u8; 65_537];
-    let mut footer = [0u8; 65_537];
-    let mut tree = [0u8; 65_537];
-    let mut offsets = [0u8; 65_537];
-    let mut out = [0u8; 500_000];
-    run(
-        &mut description,
-        &mut footer,
-        &mut tree,
-        &mut offsets,
-        &mut out,
-    );
+    run_with(&description[0..i], &footer[0..j]);
 }

@@ -1,5 +1,5 @@
 -- The laws that belong to no one function.
 pub mod Lines
-pub mod Good
+pub mod Reading
 pub mod Writing
-pub mod Telling
+pub mod Outcomes

@@ -2,8 +2,8 @@
 -- Assumes nothing.
 use mathlib.Core.Path.{_≡_, refl, ap, sym, _∙_}
 use mathlib.Core.List.{List, [], _∷_, _++_, append-assoc, append-nil}
-use Prim.Native.Nat.{ℕ, zero, suc, _+_, _-_, _^_, _≤_, _<_}
-use native.Mathlib.Nat.{add-zero, zero-add}
+use Prim.Native.Nat.{ℕ, suc, _+_, _≤_, _<_}
+use native.Mathlib.Nat.{zero-add}
 use native.Mathlib.Numerals.{add-one}
 use native.Mathlib.Decide.{decLe}
 use native.Mathlib.Omega.{arith}
@@ -13,11 +13,10 @@ use Rattle.answers.proofs.Laid.{sets-append}
 use Rattle.decimal.specs.Decimal.{decimal}
 use Rattle.decimal.specs.Write.{put}
 use Rattle.decimal.proofs.Put.{put-fits, put-short}
-use Rattle.decimal.proofs.Written.{twenty-digits}
 use Rattle.answers.specs.Runs.{over}
 use Rattle.answers.proofs.Runs.{over-snoc}
 use Rattle.report_text.specs.Text.{tileText, tilesText}
-use Rattle.report_text.specs.Wrote.{Wrote}
+use Rattle.report_text.specs.Code.Writing.{Wrote}
 
 -- two texts
 pub wrote-append : {before middle after xs ys : List ℕ} {at next end : ℕ}
@@ -41,6 +40,10 @@ byte-next out word at i h =
 pub bytes-done : (out word : List ℕ) (at i : ℕ) → length word ≤ i → sets out (at + i) (drop i word) ≡ out
 bytes-done out word at i h = rw (drop-of-length-le word {i = i} h)
 
+-- one byte
+pub wrote-byte : (out : List ℕ) (at b : ℕ) {after : List ℕ} → after ≡ set out at b → Wrote out at (b ∷ []) after (at + 1)
+wrote-byte out at b e = record { place = refl; size = ap length e ∙ length-set out at b; there = λ h. e }
+
 -- a number's digits
 put-size : (out : List ℕ) (at : ℕ) (t : List ℕ) → Dec (at + length t ≤ length out) → length (put out at t) ≡ length out
 put-size out at t (yes h) = ap length (sym (put-fits out at t h)) ∙ length-sets out at t
@@ -53,10 +56,6 @@ wrote-number out at n c p = record {
   size = ap length p ∙ put-size out at (decimal n) (decLe (at + length (decimal n)) (length out));
   there = λ h. p ∙ sym (put-fits out at (decimal n) h);
 }
-
--- a word and a number are at most 20 bytes longer than the word
-pub piece-short : (word : List ℕ) (n : ℕ) → n < 2 ^ 64 → length (word ++ decimal n) ≤ length word + 20
-piece-short word n h = omega (arith, length-append word (decimal n), twenty-digits n h)
 
 pub wrote-nothing : (out : List ℕ) (at : ℕ) → Wrote out at [] out at
 wrote-nothing out at = record { place = omega arith; size = refl; there = λ h. refl }

@@ -2,4 +2,4 @@
 pub mod Lines
 pub mod Asked
 pub mod Text
-pub mod Wrote
+pub mod Code

@@ -1,10 +1,10 @@
 -- What are the lines of a text? A line ends in one newline, which the last may lack.
 -- Assumes nothing.
+use mathlib.Core.Bool.{cond}
 use Prim.Native.Nat.{ℕ, zero, suc, _+_}
 use mathlib.Core.List.{List, [], _∷_}
 use lib.Dec.{eqb}
 use lib.ListN.{take, drop}
-use Rattle.answers.specs.Runs.{pick}
 
 -- '\n'
 abbrev pub newline : ℕ
@@ -13,7 +13,7 @@ newline = 10
 -- the bytes before the first newline: all where there is none
 unfoldable pub lineLength : List ℕ → ℕ
 lineLength [] = 0
-lineLength (b ∷ t) = pick (eqb b newline) 0 (suc (lineLength t))
+lineLength (b ∷ t) = cond (eqb b newline) 0 (suc (lineLength t))
 
 unfoldable pub firstLine : List ℕ → List ℕ
 firstLine t = take (lineLength t) t

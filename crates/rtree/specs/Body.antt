@@ -6,10 +6,10 @@ use mathlib.Core.List.{List, [], _∷_}
 use lib.Dec.{ltb, eqb}
 use lib.ListN.{length, take, drop}
 use Rattle.answers.specs.Refusals as refusals
-use Rattle.answers.specs.Checks.{check, otherwise, first, each}
+use Rattle.answers.specs.Checks.{check, first, each}
 use Rattle.answers.specs.declared.Refusal.{Refusal}
 use Rattle.order.specs.Little.{little}
-use Rattle.boxes.specs.Limits.{leastFanout, mostFanout, outside}
+use Rattle.description.specs.Limits.{leastFanout, mostFanout, outside}
 use Rattle.tree.specs.Shape.{boxes, height, levels, levelStart, bodyBytes}
 
 -- the body's own fields
@@ -19,41 +19,52 @@ fanoutOf body = little body 0 4
 abbrev pub levelsOf : List ℕ → ℕ
 levelsOf body = little body 4 4
 
--- fewer than 8 bytes, 2; 13
-unfoldable pub frontRefusal : List ℕ → Refusal
-frontRefusal body = first (
-    check (ltb (length body) 8) refusals.bytes (length body)
-    ∷ check (outside leastFanout mostFanout (fanoutOf body)) refusals.fanout 0
+-- The shape's checks, by the numbers that they read. Of so many bytes: fewer than 8, 2; the fanout, 13.
+unfoldable pub frontRefusal : ℕ → ℕ → Refusal
+frontRefusal size f = first (
+    check (ltb size 8) refusals.bytes size
+    ∷ check (outside leastFanout mostFanout f) refusals.fanout 0
     ∷ []
     )
 
+-- A stored level number other than L, 14; so many bytes, other than those of the whole, 2.
+unfoldable pub sizeRefusal : ℕ → ℕ → ℕ → ℕ → Refusal
+sizeRefusal l whole size stored = first (
+    check (not (eqb stored l)) refusals.levels 4
+    ∷ check (not (eqb size whole)) refusals.bytes size
+    ∷ []
+    )
+
+module _ (f n b : ℕ) where
+  -- a level's count stands before its boxes
+  abbrev pub countPlace : ℕ → ℕ
+  countPlace j = levelStart f n b j - 8
+
+  -- of the level at distance j, 14
+  abbrev pub countRefusal : ℕ → ℕ → Refusal
+  countRefusal stored j = check (not (eqb stored (boxes f n j))) refusals.levels (countPlace j)
+
+  -- each level's count in order, from the root's: `stored` says what is stored for each distance
+  unfoldable pub countsRefusal : (ℕ → ℕ) → Refusal
+  countsRefusal stored = each (λ l. countRefusal (stored (height f n - l)) (height f n - l)) 0 (levels f n)
+
 module _ (n b : ℕ) (body : List ℕ) where
+  -- the count that is stored for the level at distance j
+  abbrev pub storedCount : ℕ → ℕ
+  storedCount j = little body (countPlace (fanoutOf body) n b j) 8
+
+  -- the shape
+  unfoldable pub shapeRefusal : Refusal
+  shapeRefusal = first (
+      frontRefusal (length body) (fanoutOf body)
+      ∷ sizeRefusal (levels (fanoutOf body) n) (bodyBytes (fanoutOf body) n b) (length body) (levelsOf body)
+      ∷ countsRefusal (fanoutOf body) n b storedCount
+      ∷ []
+      )
+
   -- the place of box k of the level at distance j from the leaves, and the box's bytes. A box has b bytes.
   abbrev pub placeOf : ℕ → ℕ → ℕ
   placeOf j k = levelStart (fanoutOf body) n b j + k * b
 
   abbrev pub boxAt : ℕ → ℕ → List ℕ
   boxAt j k = take b (drop (placeOf j k) body)
-
-  -- a level's count, which stands before its boxes: 14
-  abbrev pub countRefusal : ℕ → Refusal
-  countRefusal j =
-      check (not (eqb (little body (levelStart (fanoutOf body) n b j - 8) 8) (boxes (fanoutOf body) n j)))
-      refusals.levels (levelStart (fanoutOf body) n b j - 8)
-
-  -- each level's count in order, from the root's
-  abbrev pub countsRefusal : Refusal
-  countsRefusal = each (λ l. countRefusal (height (fanoutOf body) n - l)) 0 (levels (fanoutOf body) n)
-
-  -- L, 14; total unlike 8 + 8L + B times all boxes, 2; each level's count in order, 14
-  unfoldable pub levelsRefusal : Refusal
-  levelsRefusal = first (
-      check (not (eqb (levelsOf body) (levels (fanoutOf body) n))) refusals.levels 4
-      ∷ check (not (eqb (length body) (bodyBytes (fanoutOf body) n b))) refusals.bytes (length body)
-      ∷ countsRefusal
-      ∷ []
-      )
-
-  -- the shape
-  abbrev pub shapeRefusal : Refusal
-  shapeRefusal = otherwise (frontRefusal body) levelsRefusal

@@ -1,7 +1,4 @@
 -- The definitions that this crate's contracts, and every crate above, cite.
 pub mod Body
 pub mod Opening
-pub mod Stored
-pub mod Query
-pub mod Walking
-pub mod Held
+pub mod Code

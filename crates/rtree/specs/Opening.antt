@@ -2,39 +2,35 @@
 -- Assumes nothing.
 use Prim.Native.Nat.{ℕ, suc, _-_, _/_}
 use mathlib.Core.Path.{_≡_}
-use mathlib.Core.Bool.{not}
+use mathlib.Core.Bool.{cond}
 use mathlib.Core.List.{List}
 use lib.Dec.{eqb}
 use Rattle.answers.specs.Refusals as refusals
-use Rattle.answers.specs.Runs.{pick}
-use Rattle.answers.specs.Checks.{check, otherwise, each}
+use Rattle.answers.specs.Checks.{otherwise, each}
 use Rattle.answers.specs.declared.Refusal.{Refusal}
-use Rattle.boxes.specs.declared.Description.{Description}
-use Rattle.boxes.specs.Description.{sidesOf, boxBytes}
-use Rattle.boxes.specs.Boxes.{rangesRefusal, boxInside}
-use Rattle.tree.specs.Shape.{boxes, height, levels}
-use Rattle.footer.specs.Fields.{domainBytes}
+use Rattle.description.specs.declared.Description.{Description}
+use Rattle.description.specs.Description.{sidesOf, boxBytes}
+use Rattle.boxes.specs.Boxes.{boxRefusal}
+use Rattle.tree.specs.Shape.{boxes, height}
+use Rattle.footer.specs.Fields.{tilesOf, domainBytes}
 use Rattle.footer.specs.Checks.{footerRefusal}
-use Rattle.footer.specs.Answer.{numberOf}
 use Rattle.rtree.specs.declared.Opened.{Opened}
 use Rattle.rtree.specs.Body.{fanoutOf, levelsOf, placeOf, boxAt, shapeRefusal}
 
 module _ (d : Description) (n : ℕ) (body : List ℕ) where
-  -- a box's ranges (8, 9 per dimension), and then whether it lies inside another
-  abbrev pub boxRefusal : List ℕ → ℕ → ℕ → ℕ → Refusal
-  boxRefusal outer number j k =
-      otherwise
-      (rangesRefusal (d .kinds) (sidesOf (d .dimensions)) (boxAt n (boxBytes d) body j k) (placeOf n (boxBytes d) body j k))
-      (check (not (boxInside (d .kinds) (sidesOf (d .dimensions)) (boxAt n (boxBytes d) body j k) outer))
-      number (placeOf n (boxBytes d) body j k))
+  -- box k at distance j: its ranges (8, 9 per dimension), and then whether it lies inside another
+  abbrev pub storedBox : List ℕ → ℕ → ℕ → ℕ → Refusal
+  storedBox outer number j k =
+      boxRefusal (d .kinds) (sidesOf (d .dimensions))
+      (boxAt n (boxBytes d) body j k) outer number (placeOf n (boxBytes d) body j k)
 
   -- 16 for the first box
   unfoldable pub rootRefusal : List ℕ → Refusal
-  rootRefusal domain = boxRefusal domain refusals.outsideDomain (height (fanoutOf body) n) 0
+  rootRefusal domain = storedBox domain refusals.outsideDomain (height (fanoutOf body) n) 0
 
   -- 15 for any other. The parent of box k is box k / f of the level above.
   unfoldable pub innerRefusal : ℕ → ℕ → Refusal
-  innerRefusal j k = boxRefusal (boxAt n (boxBytes d) body (suc j) (k / fanoutOf body)) refusals.outsideParent j k
+  innerRefusal j k = storedBox (boxAt n (boxBytes d) body (suc j) (k / fanoutOf body)) refusals.outsideParent j k
 
   -- a level's boxes, in order
   unfoldable pub levelRefusal : ℕ → Refusal
@@ -50,31 +46,26 @@ module _ (d : Description) (n : ℕ) (body : List ℕ) where
 unfoldable pub bodyRefusal : Description → ℕ → List ℕ → List ℕ → Refusal
 bodyRefusal d n domain body = otherwise (shapeRefusal n (boxBytes d) body) (boxesRefusal d n body domain)
 
--- The footer's refusals come first and count in the first of the two, the others in the second. Accepted, it answers n, f and L.
+-- a refusal in one of the two, 0 the footer and 1 the body: every other number is 0
+abbrev pub refusedIn : ℕ → Refusal → Opened
+refusedIn which r =
+    record { number = r .number; place = r .place; which = which; tiles = 0; fanout = 0; levels = 0 }
+
+-- Accepted, it answers n, f and L.
+abbrev pub acceptedTree : ℕ → List ℕ → Opened
+acceptedTree n body =
+    record { number = 0; place = 0; which = 0; tiles = n; fanout = fanoutOf body; levels = levelsOf body }
+
+-- The footer's refusals come first and count in the first of the two, the others in the second.
 unfoldable pub openAnswer : Description → ℕ → List ℕ → List ℕ → Opened
 openAnswer d F footer body =
-    pick (eqb (footerRefusal d F footer .number) 0)
-    (pick (eqb (bodyRefusal d (numberOf d footer 6) (domainBytes d footer) body .number) 0)
-    (record { number = 0; place = 0; which = 0; tiles = numberOf d footer 6; fanout = fanoutOf body; levels = levelsOf body })
-    (record {
-      number = bodyRefusal d (numberOf d footer 6) (domainBytes d footer) body .number;
-      place = bodyRefusal d (numberOf d footer 6) (domainBytes d footer) body .place;
-      which = 1;
-      tiles = 0;
-      fanout = 0;
-      levels = 0;
-    }))
-    (record {
-      number = footerRefusal d F footer .number;
-      place = footerRefusal d F footer .place;
-      which = 0;
-      tiles = 0;
-      fanout = 0;
-      levels = 0;
-    })
+    let told = bodyRefusal d (tilesOf d footer) (domainBytes d footer) body in
+    cond (eqb (footerRefusal d F footer .number) 0)
+    (cond (eqb (told .number) 0) (acceptedTree (tilesOf d footer) body) (refusedIn 1 told))
+    (refusedIn 0 (footerRefusal d F footer))
 
--- An accepted tree is a body that passes every check of opening, lent whole with some footer and F, and is asked with the same
--- description and with the n of that footer.
+-- An accepted tree is a body that passes every check of opening, lent whole with some footer and F, and is asked with
+-- the same description and with the n of that footer.
 pub record Accepted (d : Description) (n : ℕ) (body : List ℕ) : Type 0 where
   pub footer : List ℕ
   pub file : ℕ

@@ -1,5 +1,6 @@
--- What does demand 3 say of the walk of a whole tree? For any tree: the bound on the looked-at number; rising tiles below
--- n; the walk as code runs it, for every buffer. For a tree whose boxes lie in their parents: the flat count and listing.
+-- What does demand 3 say of the walk of a whole tree? For any tree: the bound on the looked-at number; rising tiles
+-- below n; the walk as code runs it, for every buffer. For a tree whose boxes lie in their parents: the flat count and
+-- listing.
 -- Assumes nothing.
 use mathlib.Core.Path.{_≡_, _∙_}
 use mathlib.Core.Bool.{Bool}
@@ -10,11 +11,12 @@ use native.Mathlib.Omega.{arith}
 use lib.ListN.{length}
 use Rattle.answers.specs.Laid.{laid}
 use Rattle.answers.proofs.Laid.{sets-whole}
-use Rattle.tree.specs.Shape.{height, levels, total}
-use Rattle.tree.specs.Walk.{lookedNumber, foundTiles, Rising, Contained, look}
+use Rattle.tree.specs.Shape.{height, levels, allBoxes}
+use Rattle.tree.specs.Walk.{lookedNumber, foundTiles, Rising, Contained}
+use Rattle.tree.specs.Code.Run.{look}
 use Rattle.tree.specs.Flat.{flatListing, flatCount}
 use Rattle.tree.proofs.Root.{height-one}
-use Rattle.tree.proofs.Bound.{bound, looked-le-total}
+use Rattle.tree.proofs.Bound.{bound, looked-le-boxes}
 use Rattle.tree.proofs.Flat.{flat-count, flat-listing}
 use Rattle.tree.proofs.Rise.{rising}
 use Rattle.tree.proofs.Run.{look-after}
@@ -25,8 +27,9 @@ module _ (f n : ℕ) (meets : ℕ → ℕ → Bool) (hf : 1 < f) (hn : 0 < n) wh
   unfolding levels
   at-most = bound f n meets (height f n) (omega arith) hn (height-one f n hf hn)
 
-  pub no-more-than-boxes : lookedNumber f n meets ≤ total f n (height f n)
-  no-more-than-boxes = looked-le-total f n meets (height f n) (omega arith) (height-one f n hf hn)
+  pub no-more-than-boxes : lookedNumber f n meets ≤ allBoxes f n
+  unfolding allBoxes levels
+  no-more-than-boxes = looked-le-boxes f n meets (height f n) (omega arith) (height-one f n hf hn)
 
   pub found-rising : Rising 0 n (foundTiles f n meets)
   found-rising = rising f n meets (height f n) 0 (omega (arith, height-one f n hf hn))
@@ -43,7 +46,3 @@ module _ (f n : ℕ) (meets : ℕ → ℕ → Bool) (hf : 1 < f) (hn : 0 < n) wh
 
     pub listed : foundTiles f n meets ≡ flatListing n meets
     listed = flat-listing f n meets (height f n) (omega arith) inside (height-one f n hf hn)
-
-    pub flat-answer : (buffer : List ℕ) → look f n meets (height f n) 0 (0, 0, buffer)
-        ≡ (flatCount f n meets, length (flatListing n meets), laid (flatListing n meets) buffer)
-    flat-answer buffer = answer buffer ∙ rw (counted, listed)

@@ -1,27 +1,27 @@
 -- Do the walk's count and its tiles come to the flat ones? Where a box that meets has a parent that meets, the children
--- of a box that doesn't meet don't either: each counts one, and none of them finds a tile. So level by level the sums and
--- the joins over all boxes are those of the flat count and of the flat listing.
+-- of a box that doesn't meet don't either: each counts one, and none of them finds a tile. So level by level the sums
+-- and the joins over all boxes are passing of the flat count and of the flat listing.
 -- Assumes nothing.
 use mathlib.Core.Path.{_≡_, refl, sym, _∙_}
-use mathlib.Core.Bool.{Bool, true, false}
+use mathlib.Core.Bool.{Bool, true, false, cond}
 use mathlib.Core.List.{List, [], _∷_, _++_, append-assoc, append-nil}
 use Prim.Native.Nat.{ℕ, zero, suc, _+_, _*_, _/_, _≤_, _<_}
 use native.Mathlib.Omega.{arith}
-use Rattle.answers.specs.Runs.{pick, over, sum, join}
+use Rattle.answers.specs.Runs.{over, sum, join}
 use Rattle.answers.proofs.Runs.{Each, over-ext, over-unit, sum-plus, sum-ones}
 use Rattle.tree.specs.Shape.{boxes, children}
 use Rattle.tree.specs.Walk.{looked, found, Contained}
-use Rattle.tree.specs.Flat.{those, flatListing, inner}
-use Rattle.tree.proofs.Shape.{child-there, child-parent, sum-children, join-children, count-children}
+use Rattle.tree.specs.Flat.{passing, flatListing, inner}
+use Rattle.tree.proofs.Counts.{child-there, child-parent, sum-children, join-children, count-children}
 use Rattle.tree.proofs.Bound.{root-sum}
 
 -- the leaves that meet, each joined on, are the flat listing
-leaves-those : (test : ℕ → Bool) (k m : ℕ) → join (λ i. pick (test i) (i ∷ []) []) k m ≡ those test k m
-unfolding over those
-leaves-those test k zero = refl
-leaves-those test k (suc m) = rw (leaves-those test (suc k) m) (go (test k))
+leaves-passing : (test : ℕ → Bool) (k m : ℕ) → join (λ i. cond (test i) (i ∷ []) []) k m ≡ passing test k m
+unfolding over passing
+leaves-passing test k zero = refl
+leaves-passing test k (suc m) = rw (leaves-passing test (suc k) m) (go (test k))
   where
-    go : (t : Bool) → pick t (k ∷ []) [] ++ those test (suc k) m ≡ pick t (k ∷ those test (suc k) m) (those test (suc k) m)
+    go : (t : Bool) → cond t (k ∷ []) [] ++ passing test (suc k) m ≡ cond t (k ∷ passing test (suc k) m) (passing test (suc k) m)
     go true = refl
     go false = refl
 
@@ -54,13 +54,13 @@ module _ (f n : ℕ) (meets : ℕ → ℕ → Bool) (top : ℕ) (pos : 0 < f) (i
 
   count-box : (j k : ℕ) → j < top
       → looked f n meets (suc j) k + children f n j k
-      ≡ (1 + sum (λ i. looked f n meets j i) (k * f) (children f n j k)) + pick (meets (suc j) k) (children f n j k) 0
+      ≡ (1 + sum (λ i. looked f n meets j i) (k * f) (children f n j k)) + cond (meets (suc j) k) (children f n j k) 0
   unfolding looked
   count-box j k h = go (meets (suc j) k) refl
     where
       go : (t : Bool) → meets (suc j) k ≡ t
-          → pick t (1 + sum (λ i. looked f n meets j i) (k * f) (children f n j k)) 1 + children f n j k
-          ≡ (1 + sum (λ i. looked f n meets j i) (k * f) (children f n j k)) + pick t (children f n j k) 0
+          → cond t (1 + sum (λ i. looked f n meets j i) (k * f) (children f n j k)) 1 + children f n j k
+          ≡ (1 + sum (λ i. looked f n meets j i) (k * f) (children f n j k)) + cond t (children f n j k) 0
       go true e = refl
       go false e =
           omega (
@@ -78,7 +78,7 @@ module _ (f n : ℕ) (meets : ℕ → ℕ → Bool) (top : ℕ) (pos : 0 < f) (i
       let a : ℕ → ℕ = λ k. looked f n meets (suc j) k in
       let b : ℕ → ℕ = λ k. children f n j k in
       let c : ℕ → ℕ = λ k. sum (λ i. looked f n meets j i) (k * f) (children f n j k) in
-      let d : ℕ → ℕ = λ k. pick (meets (suc j) k) (children f n j k) 0 in
+      let d : ℕ → ℕ = λ k. cond (meets (suc j) k) (children f n j k) 0 in
       omega (
         arith,
         count-level j (omega arith),
@@ -98,7 +98,7 @@ module _ (f n : ℕ) (meets : ℕ → ℕ → Bool) (top : ℕ) (pos : 0 < f) (i
       xs : List ℕ
       xs = join (λ i. found f n meets j i) (k * f) (children f n j k)
 
-      go : (t : Bool) → meets (suc j) k ≡ t → pick t xs [] ≡ xs
+      go : (t : Bool) → meets (suc j) k ≡ t → cond t xs [] ≡ xs
       go true e = refl
       go false e =
           sym (over-unit _++_ [] append-assoc (λ a. refl) append-nil (λ i. found f n meets j i) (k * f) (children f n j k)
@@ -106,7 +106,7 @@ module _ (f n : ℕ) (meets : ℕ → ℕ → Bool) (top : ℕ) (pos : 0 < f) (i
 
   find-level : (j : ℕ) → j ≤ top → join (λ k. found f n meets j k) 0 (boxes f n j) ≡ flatListing n meets
   unfolding found boxes
-  find-level zero h = leaves-those (meets zero) 0 n
+  find-level zero h = leaves-passing (meets zero) 0 n
   find-level (suc j) h =
       over-ext _++_ [] (λ k. found f n meets (suc j) k) (λ k. join (λ i. found f n meets j i) (k * f) (children f n j k))
       0 (boxes f n (suc j)) (λ k a b. find-box j k h)

@@ -1,5 +1,5 @@
 -- The laws that belong to no one function.
-pub mod Shape
+pub mod Counts
 pub mod Root
 pub mod Places
 pub mod Limits

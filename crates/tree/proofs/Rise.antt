@@ -1,17 +1,17 @@
 -- Do the found tiles rise, and lie below n, whatever meets? What is found below box k lies from the first tile below it
 -- on and before the first tile below box k + 1.
 -- Assumes nothing.
-use mathlib.Core.Bool.{Bool, true, false}
+use mathlib.Core.Bool.{Bool, true, false, cond}
 use mathlib.Core.List.{List, [], _∷_, _++_}
 use Prim.Native.Nat.{ℕ, zero, suc, _+_, _-_, _*_, _≤_, _<_, min}
-use native.Mathlib.Nat.{suc-add, add-suc, mul-le-mul-right, not-suc-le-zero}
+use native.Mathlib.Nat.{suc-add, add-suc, mul-le-mul-right}
 use native.Mathlib.Omega.{arith}
-use lib.ListN.{length, getD}
-use Rattle.answers.specs.Runs.{pick, over, join}
+use lib.ListN.{length}
+use Rattle.answers.specs.Runs.{over, join}
 use Rattle.answers.proofs.Runs.{Each}
 use Rattle.tree.specs.Shape.{boxes, children}
 use Rattle.tree.specs.Walk.{found, Rising}
-use Rattle.tree.proofs.Shape.{child-there}
+use Rattle.tree.proofs.Counts.{child-there}
 
 rising-wider : (a b c d : ℕ) (xs : List ℕ) → a ≤ b → c ≤ d → Rising b c xs → Rising a d xs
 unfolding Rising
@@ -57,7 +57,7 @@ module _ (f n : ℕ) (meets : ℕ → ℕ → Bool) where
   unfolding In Rising found boxes firstTile children
   rising-box zero k h = go (meets zero k)
     where
-      go : (t : Bool) → Rising k (min n (suc k)) (pick t (k ∷ []) [])
+      go : (t : Bool) → Rising k (min n (suc k)) (cond t (k ∷ []) [])
       go true = (omega arith, omega arith, tt)
       go false = tt
   rising-box (suc j) k h =
@@ -72,7 +72,7 @@ module _ (f n : ℕ) (meets : ℕ → ℕ → Bool) where
       to : ℕ
       to = firstTile f j (k * f + children f n j k)
 
-      go : (t : Bool) → Rising from (min n to) xs → Rising from (min n (firstTile f j (suc k * f))) (pick t xs [])
+      go : (t : Bool) → Rising from (min n to) xs → Rising from (min n (firstTile f j (suc k * f))) (cond t xs [])
       go true r =
           rising-wider from from (min n to) (min n (firstTile f j (suc k * f))) xs (omega arith)
           (omega (arith, first-tile-mono f j (k * f + children f n j k) (suc k * f) (omega arith))) r
@@ -83,23 +83,6 @@ module _ (f n : ℕ) (meets : ℕ → ℕ → Bool) where
   rising j k h =
       rising-wider 0 (firstTile f j k) (min n (firstTile f j (suc k))) n (found f n meets j k) (omega arith) (omega arith)
       (rising-box j k h)
-
--- what a rising list says of its places
-pub rising-at : (a b : ℕ) (xs : List ℕ) → Rising a b xs → (i : ℕ) → i < length xs
-    → (a + i ≤ getD xs i 0) × (getD xs i 0 < b)
-unfolding Rising
-rising-at a b [] r i h = absurd (not-suc-le-zero h)
-rising-at a b (x ∷ xs) r zero h = (omega arith, r .1)
-rising-at a b (x ∷ xs) r (suc i) h =
-    let p : (suc x + i ≤ getD xs i 0) × (getD xs i 0 < b) = rising-at (suc x) b xs (r .2) i (omega arith) in
-    (omega arith, omega arith)
-
-pub rising-lt : (a b : ℕ) (xs : List ℕ) → Rising a b xs → (i j : ℕ) → i < j → j < length xs → getD xs i 0 < getD xs j 0
-unfolding Rising
-rising-lt a b [] r i j h k = absurd (not-suc-le-zero k)
-rising-lt a b (x ∷ xs) r i zero h k = absurd (not-suc-le-zero h)
-rising-lt a b (x ∷ xs) r zero (suc j) h k = omega (arith, rising-at (suc x) b xs (r .2) j (omega arith))
-rising-lt a b (x ∷ xs) r (suc i) (suc j) h k = rising-lt (suc x) b xs (r .2) i j (omega arith) (omega arith)
 
 pub rising-length : (a b : ℕ) (xs : List ℕ) → Rising a b xs → length xs ≤ b - a
 unfolding Rising

@@ -1,17 +1,16 @@
--- How many levels are there? The root's level has one box and is the first that has; each level has fewer boxes than the
--- one below it, at most half of a power of two, so 2 ^ h tiles have no more than h + 1 levels.
+-- How many levels are there? The root's level has one box and is the first that has; each level has fewer boxes than
+-- the one below it, at most half of a power of two, so 2 ^ h tiles have no more than h + 1 levels.
 -- Assumes nothing.
 use mathlib.Core.Path.{_≡_, refl, sym, _∙_}
-use mathlib.Core.Bool.{Bool, true, false}
+use mathlib.Core.Bool.{Bool, true, false, cond}
 use Prim.Native.Nat.{ℕ, zero, suc, _+_, _-_, _*_, _^_, _≤_, _<_}
 use native.Mathlib.Nat.{mul-le-mul-right, mul-le-mul-left}
 use native.Mathlib.Decide.{decLe}
 use native.Mathlib.Omega.{arith}
 use lib.Dec.{leb}
 use borrow.Author.Tests.{leb-true, leb-false}
-use Rattle.answers.specs.Runs.{pick}
-use Rattle.tree.specs.Shape.{up, boxes, climb, height}
-use Rattle.tree.proofs.Shape.{up-tight, up-pos, boxes-up}
+use Rattle.tree.specs.Shape.{up, boxes, heightAbove, height}
+use Rattle.tree.proofs.Counts.{up-tight, up-pos, boxes-up}
 
 product : (a b : ℕ) → (2 + a) + (2 + b) ≤ (2 + a) * (2 + b)
 product a b = omega arith
@@ -29,27 +28,27 @@ shrinks f c hf hc = go (decLe c (up f c))
     go (yes h) = omega (arith, up-tight f c (omega arith), mul-le-mul-right f h, sum-le-product f c hf hc)
     go (no h) = omega arith
 
-climb-one : (steps f c : ℕ) → 1 < f → 0 < c → c ≤ suc steps → boxes f c (climb steps f c) ≡ 1
-unfolding climb boxes
-climb-one zero f c hf hc h = omega arith
-climb-one (suc steps) f c hf hc h =
-    go (leb c 1) refl (λ a b. climb-one steps f (up f c) hf a b)
+above-one : (steps f c : ℕ) → 1 < f → 0 < c → c ≤ suc steps → boxes f c (heightAbove steps f c) ≡ 1
+unfolding heightAbove boxes
+above-one zero f c hf hc h = omega arith
+above-one (suc steps) f c hf hc h =
+    go (leb c 1) refl (λ a b. above-one steps f (up f c) hf a b)
   where
-    go : (t : Bool) → leb c 1 ≡ t → (0 < up f c → up f c ≤ suc steps → boxes f (up f c) (climb steps f (up f c)) ≡ 1)
-        → boxes f c (pick t 0 (suc (climb steps f (up f c)))) ≡ 1
+    go : (t : Bool) → leb c 1 ≡ t → (0 < up f c → up f c ≤ suc steps → boxes f (up f c) (heightAbove steps f (up f c)) ≡ 1)
+        → boxes f c (cond t 0 (suc (heightAbove steps f (up f c)))) ≡ 1
     go true e ih = omega (arith, leb-true c 1 e)
     go false e ih =
         let two : 1 < c = leb-false c 1 e in
-        sym (boxes-up f c (climb steps f (up f c)))
+        sym (boxes-up f c (heightAbove steps f (up f c)))
         ∙ ih (up-pos f c (omega arith) hc) (omega (arith, shrinks f c hf two))
 
-climb-least : (steps f c : ℕ) (j : ℕ) → j < climb steps f c → 1 < boxes f c j
-unfolding climb boxes
-climb-least zero f c j h = omega arith
-climb-least (suc steps) f c j h = go (leb c 1) refl j h (λ i a. climb-least steps f (up f c) i a)
+above-least : (steps f c : ℕ) (j : ℕ) → j < heightAbove steps f c → 1 < boxes f c j
+unfolding heightAbove boxes
+above-least zero f c j h = omega arith
+above-least (suc steps) f c j h = go (leb c 1) refl j h (λ i a. above-least steps f (up f c) i a)
   where
-    go : (t : Bool) → leb c 1 ≡ t → (j : ℕ) → j < pick t 0 (suc (climb steps f (up f c)))
-        → ((i : ℕ) → i < climb steps f (up f c) → 1 < boxes f (up f c) i) → 1 < boxes f c j
+    go : (t : Bool) → leb c 1 ≡ t → (j : ℕ) → j < cond t 0 (suc (heightAbove steps f (up f c)))
+        → ((i : ℕ) → i < heightAbove steps f (up f c) → 1 < boxes f (up f c) i) → 1 < boxes f c j
     go true e j h ih = omega arith
     go false e zero h ih = leb-false c 1 e
     go false e (suc j) h ih = rw (← (boxes-up f c j)) (ih j (omega arith))
@@ -57,22 +56,13 @@ climb-least (suc steps) f c j h = go (leb c 1) refl j h (λ i a. climb-least ste
 -- the root's level has one box, and it is the first that has
 pub height-one : (f n : ℕ) → 1 < f → 0 < n → boxes f n (height f n) ≡ 1
 unfolding height
-height-one f n hf hn = climb-one n f n hf hn (omega arith)
+height-one f n hf hn = above-one n f n hf hn (omega arith)
 
 pub height-least : (f n j : ℕ) → j < height f n → 1 < boxes f n j
 unfolding height
-height-least f n j h = climb-least n f n j h
+height-least f n j h = above-least n f n j h
 
--- so a level with more boxes is below it, and one with a single box is it
-pub below-root : (f n j : ℕ) → 1 < f → 0 < n → j ≤ height f n → 1 < boxes f n j → j < height f n
-below-root f n j hf hn h a = go (decLe (height f n) j)
-  where
-    go : Dec (height f n ≤ j) → j < height f n
-    go (yes b) =
-        let e : j ≡ height f n = omega arith in
-        absurd (omega (arith, rw e at a, height-one f n hf hn))
-    go (no b) = omega arith
-
+-- so a level with a single box is it
 pub at-root : (f n j : ℕ) → j ≤ height f n → boxes f n j ≤ 1 → j ≡ height f n
 at-root f n j h a = go (decLe (height f n) j)
   where
@@ -103,17 +93,17 @@ halves f c h hf a = go (decLe (suc (2 ^ h)) (up f c))
     go (yes b) = omega (arith, up-tight f c (omega arith), mul-le-mul-right f b, mul-le-mul-left (2 ^ h) hf)
     go (no b) = omega arith
 
-climb-le : (steps f c h : ℕ) → 1 < f → c ≤ 2 ^ h → climb steps f c ≤ h
-unfolding climb
-climb-le zero f c h hf a = omega arith
-climb-le (suc steps) f c h hf a = go (leb c 1) refl h a (λ i b. climb-le steps f (up f c) i hf b)
+above-le : (steps f c h : ℕ) → 1 < f → c ≤ 2 ^ h → heightAbove steps f c ≤ h
+unfolding heightAbove
+above-le zero f c h hf a = omega arith
+above-le (suc steps) f c h hf a = go (leb c 1) refl h a (λ i b. above-le steps f (up f c) i hf b)
   where
-    go : (t : Bool) → leb c 1 ≡ t → (h : ℕ) → c ≤ 2 ^ h → ((i : ℕ) → up f c ≤ 2 ^ i → climb steps f (up f c) ≤ i)
-        → pick t 0 (suc (climb steps f (up f c))) ≤ h
+    go : (t : Bool) → leb c 1 ≡ t → (h : ℕ) → c ≤ 2 ^ h → ((i : ℕ) → up f c ≤ 2 ^ i → heightAbove steps f (up f c) ≤ i)
+        → cond t 0 (suc (heightAbove steps f (up f c))) ≤ h
     go true e h a ih = omega arith
     go false e zero a ih = omega (arith, leb-false c 1 e)
     go false e (suc h) a ih = omega (arith, ih h (halves f c h hf a))
 
 pub height-le : (f n h : ℕ) → 1 < f → n ≤ 2 ^ h → height f n ≤ h
 unfolding height
-height-le f n h hf a = climb-le n f n h hf a
+height-le f n h hf a = above-le n f n h hf a

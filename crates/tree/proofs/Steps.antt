@@ -2,15 +2,16 @@
 -- code's `d - 1` and `k + 1` end here.
 -- Assumes nothing.
 use mathlib.Core.Path.{_≡_, refl}
-use mathlib.Core.Bool.{Bool, true, false}
+use mathlib.Core.Bool.{Bool, true, false, cond}
 use mathlib.Core.List.{List, [], _∷_}
 use Prim.Native.Nat.{ℕ, zero, suc, _+_, _-_, _*_, _≤_, _<_}
 use native.Mathlib.Numerals.{add-one}
 use native.Mathlib.Omega.{arith}
 use lib.ListN.{length, length-append}
-use Rattle.answers.specs.Runs.{pick, over, sum, join}
+use Rattle.answers.specs.Runs.{over, sum, join}
 use Rattle.tree.specs.Shape.{children}
-use Rattle.tree.specs.Walk.{looked, found, State, tick, hit, run, look}
+use Rattle.tree.specs.Walk.{looked, found}
+use Rattle.tree.specs.Code.Run.{State, lookedOnce, foundTile, run, look}
 use Rattle.tree.proofs.Run.{run-after, look-after}
 
 pub run-turn : (step : ℕ → State → State) (k left : ℕ) (s : State) → 0 < left
@@ -37,20 +38,20 @@ join-le b a p k zero = omega arith
 join-le b a p k (suc m) = simp length-append (omega (arith, p k, join-le b a p (suc k) m))
 
 module _ (f n : ℕ) (meets : ℕ → ℕ → Bool) where
-  pub look-leaf : (d k : ℕ) (s : State) → d ≡ 0 → meets d k ≡ true → look f n meets d k s ≡ hit k (tick s)
+  pub look-leaf : (d k : ℕ) (s : State) → d ≡ 0 → meets d k ≡ true → look f n meets d k s ≡ foundTile k (lookedOnce s)
   unfolding look
   look-leaf zero k s e m = rw m
   look-leaf (suc d) k s e m = absurd (omega arith)
 
   pub look-inner : (d k : ℕ) (s : State) → (d ≡ 0 → ⊥) → meets d k ≡ true
-      → look f n meets d k s ≡ run (λ i t. look f n meets (d - 1) i t) (k * f) (children f n (d - 1) k) (tick s)
+      → look f n meets d k s ≡ run (λ i t. look f n meets (d - 1) i t) (k * f) (children f n (d - 1) k) (lookedOnce s)
   unfolding look
   look-inner zero k s e m = absurd (e refl)
   look-inner (suc d) k s e m =
       let p : suc d - 1 ≡ d = omega arith in
       rw (m, p)
 
-  pub look-miss : (d k : ℕ) (s : State) → meets d k ≡ false → look f n meets d k s ≡ tick s
+  pub look-miss : (d k : ℕ) (s : State) → meets d k ≡ false → look f n meets d k s ≡ lookedOnce s
   unfolding look
   look-miss zero k s m = rw m
   look-miss (suc d) k s m = rw m
@@ -61,7 +62,7 @@ module _ (f n : ℕ) (meets : ℕ → ℕ → Bool) where
   some-looked zero k = omega arith
   some-looked (suc d) k = go (meets (suc d) k)
     where
-      go : (t : Bool) → 0 < pick t (1 + sum (λ i. looked f n meets d i) (k * f) (children f n d k)) 1
+      go : (t : Bool) → 0 < cond t (1 + sum (λ i. looked f n meets d i) (k * f) (children f n d k)) 1
       go true = omega arith
       go false = omega arith
 
@@ -80,7 +81,7 @@ module _ (f n : ℕ) (meets : ℕ → ℕ → Bool) where
   unfolding looked found
   found-le zero k = go (meets zero k)
     where
-      go : (t : Bool) → length (pick t (k ∷ []) []) ≤ 1
+      go : (t : Bool) → length (cond t (k ∷ []) []) ≤ 1
       go true = omega arith
       go false = omega arith
   found-le (suc d) k =
@@ -93,6 +94,6 @@ module _ (f n : ℕ) (meets : ℕ → ℕ → Bool) where
       xs : List ℕ
       xs = join (λ i. found f n meets d i) (k * f) (children f n d k)
 
-      go : (t : Bool) → length xs ≤ a → length (pick t xs []) ≤ pick t (1 + a) 1
+      go : (t : Bool) → length xs ≤ a → length (cond t xs []) ≤ cond t (1 + a) 1
       go true h = omega arith
       go false h = omega arith

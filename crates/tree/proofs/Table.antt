@@ -1,98 +1,145 @@
--- What does the table of the levels' counts hold? Filling it upward from the leaves stores the counts of all levels in turn,
--- and place j then holds the count at distance j.
+-- What is in the table of the levels? A level's place and count are stored before those of the levels above it; so the
+-- whole is the list of all places and counts, laid over zeros, and the numbers at 2j and 2j + 1 are those of distance
+-- j.
 -- Assumes nothing.
-use mathlib.Core.Path.{_≡_, refl, ap, sym, _∙_}
+use mathlib.Core.Path.{_≡_, refl, _∙_}
 use mathlib.Core.Bool.{true}
-use mathlib.Core.List.{List, [], _∷_, _++_, append-assoc, append-nil}
-use Prim.Native.Nat.{ℕ, zero, suc, _+_, _-_, _≤_, _<_}
-use native.Mathlib.Nat.{zero-add, add-zero, add-suc, suc-add, not-suc-le-zero}
+use mathlib.Core.List.{List, [], _∷_}
+use Prim.Native.Nat.{ℕ, zero, suc, _+_, _*_, _≤_, _<_}
+use native.Mathlib.Nat.{zero-add, add-zero, add-suc, suc-add}
+use native.Mathlib.Numerals.{add-one}
+use native.Mathlib.Decide.{decLe}
 use native.Mathlib.Omega.{arith}
-use lib.ListN.{length, getD, replicate, drop}
-use lib.Seq.{sets, sets-eq}
-use Rattle.boxes.specs.Limits.{Sizes}
+use lib.ListN.{length, getD, set, replicate, List·getD-eq-default}
+use lib.ListN.{length-append, length-take, length-drop, length-replicate, getD-replicate}
+use lib.Seq.{sets, set-comm, take-nil}
+use Rattle.answers.specs.Laid.{laid}
 use Rattle.answers.specs.Runs.{over, join}
-use Rattle.answers.proofs.Runs.{Each, over-ext, over-add}
-use Rattle.tree.specs.Shape.{up, boxes, height, levels, counts}
-use Rattle.tree.specs.AnyNumbers.{outsideLimits, levelBoxes, levelTable}
-use Rattle.tree.proofs.Shape.{boxes-up}
-use Rattle.tree.proofs.Root.{height-up, at-root}
-use Rattle.tree.proofs.Limits.{root-near, level-boxes, no-boxes}
+use Rattle.description.specs.Limits.{mostTiles, Sizes}
+use Rattle.tree.specs.Shape.{up, boxes, height, levels, allBoxes, levelStart, bodyBytes}
+use Rattle.tree.specs.Shape.{mostBoxBytes, outsideLimits, placesAndCounts, shapeOf}
+use Rattle.tree.proofs.Counts.{boxes-le}
+use Rattle.tree.proofs.Places.{places-one, places-up}
+use Rattle.tree.proofs.Limits.{inside-limits, root-near}
 
--- a list of the numbers g k, g (k + 1), .. , m of them
-abbrev row : (ℕ → ℕ) → ℕ → ℕ → List ℕ
-row g = join (λ i. g i ∷ [])
+-- a store before a run of stores may come first
+sets-comm : (l vs : List ℕ) (i k v : ℕ) → i < k → set (sets l k vs) i v ≡ sets (set l i v) k vs
+sets-comm l [] i k v h = refl
+sets-comm l (x ∷ vs) i k v h =
+    sets-comm (set l k x) vs i (suc k) v (omega arith) ∙ rw (set-comm l k i x v (λ e. omega arith))
 
-row-length : (g : ℕ → ℕ) (k m : ℕ) → length (row g k m) ≡ m
-unfolding over
-row-length g k zero = refl
-row-length g k (suc m) = ap suc (row-length g (suc k) m)
+-- the root's place and count, and those of a level below it, stored as code stores them
+pub store-root : (l : List ℕ) (f b c d : ℕ) → c ≡ 1
+    → set (set l (2 * d + 1) c) (2 * d) 16 ≡ sets l (2 * d) (placesAndCounts f c b)
+store-root l f b c d one =
+    rw (places-one f c one b, add-one, set-comm l (suc (2 * d)) (2 * d) c 16 (λ e. omega arith))
 
-row-at : (g : ℕ → ℕ) (k m i : ℕ) → i < m → getD (row g k m) i 0 ≡ g (k + i)
-unfolding over
-row-at g k zero i h = absurd (not-suc-le-zero h)
-row-at g k (suc m) zero h = rw add-zero
-row-at g k (suc m) (suc i) h = row-at g (suc k) m i (omega arith) ∙ rw (suc-add, add-suc)
+pub store-level : (l : List ℕ) (f b c d : ℕ) → 1 < f → 1 < c
+    → set (sets (set l (2 * d + 1) c) (2 * (d + 1)) (placesAndCounts f (up f c) b)) (2 * d) (levelStart f c b 0)
+    ≡ sets l (2 * d) (placesAndCounts f c b)
+store-level l f b c d hf hc =
+    let v = levelStart f c b 0 in
+    let next : 2 * (d + 1) ≡ suc (suc (2 * d)) = omega arith in
+    rw (
+      places-up f c hf hc b,
+      next,
+      add-one (2 * d),
+      sets-comm (set l (suc (2 * d)) c) (placesAndCounts f (up f c) b) (2 * d) (suc (suc (2 * d))) v (omega arith),
+      set-comm l (suc (2 * d)) (2 * d) c v (λ e. omega arith),
+    )
 
-row-shift : (g h : ℕ → ℕ) → ((i : ℕ) → g i ≡ h (suc i)) → (k m : ℕ) → row g k m ≡ row h (suc k) m
-unfolding over
-row-shift g h p k zero = refl
-row-shift g h p k (suc m) = rw (p k, row-shift g h p (suc k) m)
+-- a list laid over zeros is that list, and then zeros
+laid-at : (xs : List ℕ) (m i : ℕ) → i < m → getD (laid xs (replicate m 0)) i 0 ≡ getD xs i 0
+laid-at [] m i h = rw (take-nil, getD-replicate {A = ℕ} m i 0 0 h)
+laid-at (x ∷ xs) zero i h = absurd (omega arith)
+laid-at (x ∷ xs) (suc m) zero h = refl
+laid-at (x ∷ xs) (suc m) (suc i) h = laid-at xs m i (omega arith)
 
--- nothing but zeros
-abbrev zeros : ℕ → List ℕ
-zeros m = replicate m 0
+-- g k, h k, g (k + 1), h (k + 1), .. , m pairs
+module _ (g h : ℕ → ℕ) where
+  abbrev pairs : ℕ → ℕ → List ℕ
+  pairs = join (λ j. g j ∷ h j ∷ [])
 
-row-zeros : (g : ℕ → ℕ) (k m : ℕ) → Each (λ i. g i ≡ 0) k m → row g k m ≡ zeros m
-unfolding over
-row-zeros g k zero p = refl
-row-zeros g k (suc m) p =
-    rw (p k (omega arith) (omega arith), row-zeros g (suc k) m (λ i a b. p i (omega arith) (omega arith)))
+  pair-at : (k m j : ℕ) → j < m → (getD (pairs k m) (2 * j) 0 ≡ g (k + j)) × (getD (pairs k m) (2 * j + 1) 0 ≡ h (k + j))
+  unfolding over
+  pair-at k zero j l = absurd (omega arith)
+  pair-at k (suc m) zero l = (rw add-zero, rw add-zero)
+  pair-at k (suc m) (suc j) l =
+      let p : 2 * suc j + 1 ≡ suc (suc (2 * j + 1)) = omega arith in
+      let q : 2 * suc j ≡ suc (suc (2 * j)) = omega arith in
+      rw (p, q, add-suc k j, ← (suc-add k j)) (pair-at (suc k) m j (omega arith))
 
-drop-zeros : (k m : ℕ) → drop k (zeros m) ≡ zeros (m - k)
-drop-zeros zero m = let e : m - 0 ≡ m = omega arith in rw e
-drop-zeros (suc k) zero = let e : 0 - suc k ≡ 0 = omega arith in rw e
-drop-zeros (suc k) (suc m) = let e : suc m - suc k ≡ m - k = omega arith in rw e (drop-zeros k m)
+  pair-past : (k m j : ℕ) → m ≤ j → (getD (pairs k m) (2 * j) 0 ≡ 0) × (getD (pairs k m) (2 * j + 1) 0 ≡ 0)
+  unfolding over
+  pair-past k zero j l = (refl, refl)
+  pair-past k (suc m) zero l = absurd (omega arith)
+  pair-past k (suc m) (suc j) l =
+      let p : 2 * suc j + 1 ≡ suc (suc (2 * j + 1)) = omega arith in
+      let q : 2 * suc j ≡ suc (suc (2 * j)) = omega arith in
+      rw (p, q) (pair-past (suc k) m j (omega arith))
 
--- the counts of all levels: the leaves' count, and then those of the tree above them
-pub counts-one : (f c : ℕ) → c ≤ 1 → counts f c ≡ c ∷ []
-unfolding counts levels over boxes
-counts-one f c h = rw (sym (at-root f c 0 (omega arith) h))
+-- the value
+pub shape-outside : (f n b : ℕ) → outsideLimits f n b ≡ true
+    → record { levels = 0; boxes = 0; table = replicate 50 0 } ≡ shapeOf f n b
+unfolding shapeOf
+shape-outside f n b e = rw e
 
-pub counts-up : (f c : ℕ) → 1 < f → 1 < c → counts f c ≡ c ∷ counts f (up f c)
-unfolding counts levels over boxes
-counts-up f c hf hc =
-    rw (height-up f c hf hc, row-shift (boxes f (up f c)) (boxes f c) (boxes-up f c) 0 (suc (height f (up f c))))
+module _ {n f : ℕ} (z : Sizes n f) (b : ℕ) (w : b ≤ mostBoxBytes) where
+  pub shape-inside : shapeOf f n b
+      ≡ record { levels = levels f n; boxes = allBoxes f n; table = laid (placesAndCounts f n b) (replicate 50 0) }
+  unfolding shapeOf
+  shape-inside = rw (inside-limits z b w)
 
--- the table
-pub table-length : (n f : ℕ) → length (levelTable n f) ≡ 25
-unfolding levelTable
-table-length n f = row-length (levelBoxes n f) 0 25
+  pub shape-levels : shapeOf f n b .levels ≡ levels f n
+  shape-levels = rw shape-inside
 
-pub table-at : (n f j : ℕ) → j < 25 → getD (levelTable n f) j 0 ≡ levelBoxes n f j
-unfolding levelTable
-table-at n f j h = row-at (levelBoxes n f) 0 25 j h ∙ rw zero-add
+  pub shape-boxes : shapeOf f n b .boxes ≡ allBoxes f n
+  shape-boxes = rw shape-inside
 
--- outside the limits
-pub table-outside : (n f : ℕ) → outsideLimits n f ≡ true → zeros 25 ≡ levelTable n f
-unfolding levelTable levelBoxes over
-table-outside n f e = rw e
+  pub shape-bytes : 8 + 8 * shapeOf f n b .levels + b * shapeOf f n b .boxes ≡ bodyBytes f n b
+  unfolding bodyBytes
+  shape-bytes = rw (shape-levels, shape-boxes)
 
-module _ {n f : ℕ} (z : Sizes n f) where
-  pub table-level : (j : ℕ) → j ≤ height f n → getD (levelTable n f) j 0 ≡ boxes f n j
-  table-level j h = table-at n f j (omega (arith, root-near z)) ∙ level-boxes z j h
+  -- the table
+  pub table-length : length (shapeOf f n b .table) ≡ 50
+  table-length =
+      rw (shape-inside, length-append, length-take, length-drop, length-replicate {A = ℕ} 50 0) (omega arith)
 
-  pub table-filled : sets (zeros 25) 0 (counts f n) ≡ levelTable n f
-  unfolding levelTable counts levels
-  table-filled =
-      let L = suc (height f n) in
-      let size : length (row (boxes f n) 0 L) ≡ L = row-length (boxes f n) 0 L in
-      let room : L + (25 - L) ≡ 25 = omega (arith, root-near z) in
-      let split = over-add _++_ [] append-assoc (λ a. refl) append-nil (λ j. levelBoxes n f j ∷ []) 0 L (25 - L) in
-      let parts : row (levelBoxes n f) 0 L ++ row (levelBoxes n f) (0 + L) (25 - L) ≡ row (boxes f n) 0 L ++ zeros (25 - L) =
-      rw (
-        over-ext _++_ [] (λ j. levelBoxes n f j ∷ []) (λ j. boxes f n j ∷ []) 0 L (λ j a b. rw (level-boxes z j (omega arith))),
-        row-zeros (levelBoxes n f) (0 + L) (25 - L) (λ j a b. no-boxes z j (omega arith)),
+  table-at : (i : ℕ) → i < 50 → getD (shapeOf f n b .table) i 0 ≡ getD (placesAndCounts f n b) i 0
+  table-at i h = rw shape-inside (laid-at (placesAndCounts f n b) 50 i h)
+
+  level-at : (j : ℕ) → j ≤ height f n
+      → (getD (shapeOf f n b .table) (2 * j) 0 ≡ levelStart f n b j) × (getD (shapeOf f n b .table) (2 * j + 1) 0 ≡ boxes f n j)
+  unfolding placesAndCounts levels
+  level-at j h =
+      let p = pair-at (λ i. levelStart f n b i) (λ i. boxes f n i) 0 (levels f n) j (omega arith) in
+      let near : j ≤ 24 = omega (arith, root-near z) in
+      (table-at (2 * j) (omega arith) ∙ p .0 ∙ rw zero-add, table-at (2 * j + 1) (omega arith) ∙ p .1 ∙ rw zero-add)
+
+  pub start-at : (j : ℕ) → j ≤ height f n → getD (shapeOf f n b .table) (2 * j) 0 ≡ levelStart f n b j
+  start-at j h = level-at j h .0
+
+  pub count-at : (j : ℕ) → j ≤ height f n → getD (shapeOf f n b .table) (2 * j + 1) 0 ≡ boxes f n j
+  count-at j h = level-at j h .1
+
+  -- past the root
+  pub past-root : (j : ℕ) → height f n < j
+      → (getD (shapeOf f n b .table) (2 * j) 0 ≡ 0) × (getD (shapeOf f n b .table) (2 * j + 1) 0 ≡ 0)
+  unfolding placesAndCounts levels
+  past-root j h = go (decLe j 24)
+    where
+      go : Dec (j ≤ 24) → (getD (shapeOf f n b .table) (2 * j) 0 ≡ 0) × (getD (shapeOf f n b .table) (2 * j + 1) 0 ≡ 0)
+      go (yes a) =
+          let p = pair-past (λ i. levelStart f n b i) (λ i. boxes f n i) 0 (levels f n) j (omega arith) in
+          (table-at (2 * j) (omega arith) ∙ p .0, table-at (2 * j + 1) (omega arith) ∙ p .1)
+      go (no a) = (
+        List·getD-eq-default (shapeOf f n b .table) 0 (omega (arith, table-length)),
+        List·getD-eq-default (shapeOf f n b .table) 0 (omega (arith, table-length)),
       )
-      in
-      sets-eq (row (boxes f n) 0 L) (zeros 25) 0 (omega (arith, size, root-near z))
-      ∙ rw (zero-add, size, drop-zeros L 25) (sym (rw room at split ∙ parts))
+
+  pub count-most : (j : ℕ) → getD (shapeOf f n b .table) (2 * j + 1) 0 ≤ mostTiles
+  count-most j = go (decLe j (height f n))
+    where
+      go : Dec (j ≤ height f n) → getD (shapeOf f n b .table) (2 * j + 1) 0 ≤ mostTiles
+      go (yes a) = omega (arith, count-at j a, boxes-le f n j (omega arith) (z .some), z .most)
+      go (no a) = omega (arith, past-root j (omega arith) .1)

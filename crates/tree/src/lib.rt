@@ -1,145 +1,116 @@
-// The shape of a packed tree, from its tiles and its fanout: how many boxes each level has, where they stand in a body, how
-// many levels there are. A level is named by its distance from the leaves. Outside the limits every answer is 0.
-use boxes::Description;
+// The shape of a packed tree, from its tiles and its fanout: how many boxes each level has and where they stand in a
+// body. A level is named by its distance from the leaves.
+use description::Description;
 ghost use mathlib.Core.Path.{_≡_};
-ghost use Prim.Native.Nat.{_+_, _≤_};
+ghost use Prim.Native.Nat.{_+_, _-_, _*_, _≤_, min};
 ghost use lib.Seq.{sets};
-ghost use Rattle.boxes.specs.Limits.{Sizes};
-ghost use Rattle.tree.specs.Shape.{up, boxes, height, counts, total, bodyBytes};
-ghost use Rattle.tree.specs.AnyNumbers.{outsideLimits, noLevel, mostWidth, levelNumber, levelBoxes, levelPlace};
-ghost use Rattle.tree.specs.AnyNumbers.{allBoxes, bodyLength, childBoxes, levelTable};
+ghost use Rattle.description.specs.Limits.{Sizes};
+ghost use Rattle.tree.specs.Shape.{up, levels, allBoxes, levelStart, mostBoxBytes};
+ghost use Rattle.tree.specs.Shape.{outsideLimits, placesAndCounts, shapeOf};
 
 // The most bytes of a box: four dimensions of 16.
-pub const MOST_WIDTH: usize = 64;
+const MOST_BOX_BYTES: usize = 64;
 
-// The level number L.
-pub fn levels(tiles: usize, fanout: usize) -> usize
-    ensures { λ r. ⌜ r ≡ levelNumber tiles fanout ⌝ }
-{
-    if outside_limits(tiles, fanout) {
-        return 0;
-    }
-    let tree = count_up(tiles, fanout);
-    tree.top + 1
+// The shape of a packed tree in a body whose boxes have `box_bytes` bytes.
+pub struct Shape {
+    // L
+    pub levels: usize,
+    // all boxes
+    pub boxes: usize,
+    // by distance j from the leaves: the place of the level's first box at 2j, its box count at 2j + 1; 0 past the root
+    pub table: [usize; 50],
 }
 
-// The box count of a level.
-pub fn level_boxes(tiles: usize, fanout: usize, distance: usize) -> usize
-    ensures { λ r. ⌜ r ≡ levelBoxes tiles fanout distance ⌝ }
+// Every number is 0 where the tiles or the fanout are outside the limits, or where no box has so many bytes.
+pub fn shape_of(tiles: usize, fanout: usize, box_bytes: usize) -> Shape
+    ensures { λ r. ⌜ r ≡ shapeOf fanout tiles «box_bytes» ⌝ }
 {
-    if no_level(tiles, fanout, distance) {
-        return 0;
+    let mut table = [0usize; 50];
+    if outside_limits(tiles, fanout, box_bytes) {
+        return Shape {
+            levels: 0,
+            boxes: 0,
+            table: table,
+        };
     }
-    let level = level_at(tiles, fanout, distance);
-    level.boxes
+    let filled = fill(&mut table, fanout, box_bytes, tiles, 0);
+    Shape {
+        levels: filled.levels,
+        boxes: filled.boxes,
+        table: table,
+    }
 }
 
-// The place of a level's first box, in a body with boxes of `width` bytes.
-pub fn level_start(tiles: usize, fanout: usize, width: usize, distance: usize) -> usize
-    ensures { λ r. ⌜ r ≡ levelPlace tiles fanout width distance ⌝ }
+// How many boxes the row of children from `first` on has, in a level of `below` boxes.
+pub fn row_length(fanout: usize, below: usize, first: usize) -> usize
+    ensures { λ r. ⌜ r ≡ min fanout (below - first) ⌝ }
 {
-    if no_level(tiles, fanout, distance) {
+    if below <= first {
         return 0;
     }
-    if MOST_WIDTH < width {
-        return 0;
-    }
-    let body = whole_body(tiles, fanout, width);
-    let level = level_at(tiles, fanout, distance);
-    let left = level.boxes + level.below;
-    let bytes = 8 * distance + width * left;
-    body - bytes
-}
-
-// All boxes of the tree.
-pub fn all_boxes(tiles: usize, fanout: usize) -> usize
-    ensures { λ r. ⌜ r ≡ allBoxes tiles fanout ⌝ }
-{
-    if outside_limits(tiles, fanout) {
-        return 0;
-    }
-    let tree = count_up(tiles, fanout);
-    tree.boxes
-}
-
-// The bytes of the body.
-pub fn body_bytes(tiles: usize, fanout: usize, width: usize) -> usize
-    ensures { λ r. ⌜ r ≡ bodyLength tiles fanout width ⌝ }
-{
-    if outside_limits(tiles, fanout) {
-        return 0;
-    }
-    if MOST_WIDTH < width {
-        return 0;
-    }
-    whole_body(tiles, fanout, width)
-}
-
-// How many children box k of a level has.
-pub fn children(tiles: usize, fanout: usize, distance: usize, k: usize) -> usize
-    ensures { λ r. ⌜ r ≡ childBoxes tiles fanout distance k ⌝ }
-{
-    if distance == 0 {
-        return 0;
-    }
-    let count = level_boxes(tiles, fanout, distance);
-    if count <= k {
-        return 0;
-    }
-    let next = level_boxes(tiles, fanout, distance - 1);
-    let first = k * fanout;
-    let rest = next - first;
+    let rest = below - first;
     if rest < fanout { rest } else { fanout }
 }
 
-// The box counts of all levels: place j has that of distance j.
-pub fn level_table(tiles: usize, fanout: usize) -> [usize; 25]
-    ensures { λ r. ⌜ r ≡ levelTable tiles fanout ⌝ }
+fn outside_limits(tiles: usize, fanout: usize, box_bytes: usize) -> bool
+    ensures { λ r. ⌜ r ≡ outsideLimits fanout tiles «box_bytes» ⌝ }
 {
-    let mut table = [0usize; 25];
-    if outside_limits(tiles, fanout) {
-        return table;
-    }
-    fill(&mut table, fanout, tiles, 0);
-    table
-}
-
-fn outside_limits(tiles: usize, fanout: usize) -> bool
-    ensures { λ r. ⌜ r ≡ outsideLimits tiles fanout ⌝ }
-{
-    let least = Description::LEAST_FANOUT as u64;
-    let most = Description::MOST_FANOUT as u64;
     let n = tiles as u64;
-    let f = fanout as u64;
-    if boxes::outside(Description::LEAST_TILES, Description::MOST_TILES, n) {
+    if description::outside(Description::LEAST_TILES, Description::MOST_TILES, n) {
         return true;
     }
-    boxes::outside(least, most, f)
-}
-
-// The root's distance from the leaves, and the number of all boxes.
-struct Counted {
-    top: usize,
-    boxes: usize,
-}
-
-// Counting upward until a level has one box.
-fn count_up(tiles: usize, fanout: usize) -> Counted
-    requires { ⌜ Sizes tiles fanout ⌝ }
-    ensures { λ r. ⌜ (r .top ≡ height fanout tiles) × (r .boxes ≡ total fanout tiles (height fanout tiles)) ⌝ }
-{
-    let mut count = tiles;
-    let mut below: usize = 0;
-    let mut distance: usize = 0;
-    while 1 < count {
-        below += count;
-        count = above(fanout, count);
-        distance += 1;
+    let least = Description::LEAST_FANOUT as u64;
+    let most = Description::MOST_FANOUT as u64;
+    let f = fanout as u64;
+    if description::outside(least, most, f) {
+        return true;
     }
-    let boxes = below + 1;
-    Counted {
-        top: distance,
-        boxes,
+    MOST_BOX_BYTES < box_bytes
+}
+
+// What a level gives back to the one below it: L, the boxes from it up to the root, the place of its first box.
+struct Filled {
+    levels: usize,
+    boxes: usize,
+    place: usize,
+}
+
+// By recursion on the level's distance from the leaves: its count is worked out from the level below it, its place from
+// the level above it. Fills the table from this level, which has `count` boxes, up to the root.
+fn fill(
+    table: &mut [usize; 50],
+    fanout: usize,
+    box_bytes: usize,
+    count: usize,
+    distance: usize,
+) -> Filled
+    requires { ⌜ Sizes count fanout ⌝ }
+    requires { ⌜ «box_bytes» ≤ mostBoxBytes ⌝ }
+    requires { ⌜ distance + levels fanout count ≤ 25 ⌝ }
+    ensures { λ r. ⌜ r .levels ≡ distance + levels fanout count ⌝ }
+    ensures { λ r. ⌜ r .boxes ≡ allBoxes fanout count ⌝ }
+    ensures { λ r. ⌜ r .place ≡ levelStart fanout count «box_bytes» 0 ⌝ }
+    ensures { λ _. ⌜ now (table .exit)
+        ≡ sets (now (table .entry)) (2 * distance) (placesAndCounts fanout count «box_bytes») ⌝ }
+{
+    let at = 2 * distance;
+    table[at + 1] = count;
+    if count == 1 {
+        table[at] = 16;
+        return Filled {
+            levels: distance + 1,
+            boxes: 1,
+            place: 16,
+        };
+    }
+    let next = above(fanout, count);
+    let filled = fill(table, fanout, box_bytes, next, distance + 1);
+    let place = filled.place + next * box_bytes + 8;
+    table[at] = place;
+    Filled {
+        levels: filled.levels,
+        boxes: filled.boxes + count,
+        place: place,
     }
 }
 
@@ -149,61 +120,4 @@ fn above(fanout: usize, count: usize) -> usize
     ensures { λ r. ⌜ r ≡ up fanout count ⌝ }
 {
     (count + (fanout - 1)) / fanout
-}
-
-fn no_level(tiles: usize, fanout: usize, distance: usize) -> bool
-    ensures { λ r. ⌜ r ≡ noLevel tiles fanout distance ⌝ }
-{
-    if outside_limits(tiles, fanout) {
-        return true;
-    }
-    let tree = count_up(tiles, fanout);
-    tree.top < distance
-}
-
-// A level's box count, and the boxes of all levels below it.
-struct Level {
-    boxes: usize,
-    below: usize,
-}
-
-// By recursion on the distance: a level's count is worked out from the level below it.
-fn level_at(tiles: usize, fanout: usize, distance: usize) -> Level
-    requires { ⌜ Sizes tiles fanout ⌝ }
-    requires { ⌜ distance ≤ height fanout tiles ⌝ }
-    ensures { λ r. ⌜ (r .boxes ≡ boxes fanout tiles distance) × (r .boxes + r .below ≡ total fanout tiles distance) ⌝ }
-{
-    if distance == 0 {
-        return Level {
-            boxes: tiles,
-            below: 0,
-        };
-    }
-    let next = level_at(tiles, fanout, distance - 1);
-    let boxes = above(fanout, next.boxes);
-    let below = next.below + next.boxes;
-    Level { boxes, below }
-}
-
-// The bytes of the body, inside the limits.
-fn whole_body(tiles: usize, fanout: usize, width: usize) -> usize
-    requires { ⌜ Sizes tiles fanout ⌝ }
-    requires { ⌜ width ≤ mostWidth ⌝ }
-    ensures { λ r. ⌜ r ≡ bodyBytes fanout tiles width ⌝ }
-{
-    let tree = count_up(tiles, fanout);
-    8 + 8 * (tree.top + 1) + width * tree.boxes
-}
-
-// The counts of the levels from `distance` on, which has `count` boxes, each at its distance's place.
-fn fill(table: &mut [usize; 25], fanout: usize, count: usize, distance: usize)
-    requires { ⌜ Sizes count fanout ⌝ }
-    requires { ⌜ distance + height fanout count ≤ 24 ⌝ }
-    ensures { λ _. ⌜ now (table .exit) ≡ sets (now (table .entry)) distance (counts fanout count) ⌝ }
-{
-    table[distance] = count;
-    if 1 < count {
-        let next = above(fanout, count);
-        fill(table, fanout, next, distance + 1);
-    }
 }

@@ -1,6 +1,6 @@
 //! Inputs, made from a seed and a number.
 
-use crate::rules::{self, Description};
+use crate::rules::{self, limits, Description, FLOAT32, FLOAT64, INT32, INT64, KINDS};
 
 #[derive(Clone, Debug)]
 pub enum Case {
@@ -47,40 +47,68 @@ impl Chance {
 fn end(c: &mut Chance, kind: u8, x: i64) -> Vec<u8> {
     let edge = c.one_in(60);
     match kind {
-        0 if edge => c.of(&[i32::MIN, i32::MAX, -1, 0]).to_le_bytes().to_vec(),
-        0 => (x as i32).to_le_bytes().to_vec(),
-        1 if edge => c.of(&[i64::MIN, i64::MAX, -1, 0]).to_le_bytes().to_vec(),
-        1 => x.to_le_bytes().to_vec(),
-        2 if edge => c.of(&[0.0f32, -0.0, f32::INFINITY, f32::NEG_INFINITY, 1e-45, -1e-45]).to_le_bytes().to_vec(),
-        2 => (x as f32 / 2.0).to_le_bytes().to_vec(),
-        _ if edge => c.of(&[0.0f64, -0.0, f64::INFINITY, f64::NEG_INFINITY, 5e-324, -5e-324]).to_le_bytes().to_vec(),
-        _ => (x as f64 / 2.0).to_le_bytes().to_vec(),
+        k if k == INT32.number && edge => c.of(&[i32::MIN, i32::MAX, -1, 0]).to_le_bytes().to_vec(),
+        k if k == INT32.number => (x as i32).to_le_bytes().to_vec(),
+        k if k == INT64.number && edge => c.of(&[i64::MIN, i64::MAX, -1, 0]).to_le_bytes().to_vec(),
+        k if k == INT64.number => x.to_le_bytes().to_vec(),
+        k if k == FLOAT32.number && edge => c.of(&[0.0f32, -0.0, f32::INFINITY, f32::NEG_INFINITY, 1e-45, -1e-45]).to_le_bytes().to_vec(),
+        k if k == FLOAT32.number => (x as f32 / 2.0).to_le_bytes().to_vec(),
+        k if k == FLOAT64.number && edge => c.of(&[0.0f64, -0.0, f64::INFINITY, f64::NEG_INFINITY, 5e-324, -5e-324]).to_le_bytes().to_vec(),
+        k if k == FLOAT64.number => (x as f64 / 2.0).to_le_bytes().to_vec(),
+        k => panic!("{k} is no kind"),
     }
 }
 
-fn nan(c: &mut Chance, kind: u8) -> Vec<u8> {
+/// Bytes of NaNs, of a kind that has some.
+fn nans(kind: u8) -> Vec<Vec<u8>> {
     match kind {
-        2 => c.of(&[0x7fc0_0000u32, 0x7f80_0001, 0xffff_ffff]).to_le_bytes().to_vec(),
-        _ => c.of(&[0x7ff8_0000_0000_0000u64, 0x7ff0_0000_0000_0001, u64::MAX]).to_le_bytes().to_vec(),
+        k if k == FLOAT32.number => [0x7fc0_0000u32, 0x7f80_0001, 0xffff_ffff].iter().map(|x| x.to_le_bytes().to_vec()).collect(),
+        k if k == FLOAT64.number => [0x7ff8_0000_0000_0000u64, 0x7ff0_0000_0000_0001, u64::MAX].iter().map(|x| x.to_le_bytes().to_vec()).collect(),
+        _ => vec![],
     }
+}
+
+fn some_kind(c: &mut Chance) -> u8 {
+    c.of(&KINDS).number
+}
+
+/// Numbers that are no kind's.
+fn no_kinds() -> [u8; 3] {
+    let past = KINDS.iter().map(|kind| kind.number).max().unwrap() + 1;
+    [past, past + 1, 255]
+}
+
+/// The number of a kind, or one of none.
+fn any_number(c: &mut Chance) -> u8 {
+    let mut numbers: Vec<u8> = KINDS.iter().map(|kind| kind.number).collect();
+    let [past, _, largest] = no_kinds();
+    numbers.extend([past, largest]);
+    c.of(&numbers)
+}
+
+/// A kind as it is, and for a number that is none some kind.
+fn known(number: u8) -> u8 {
+    rules::kind(number).unwrap_or(KINDS[usize::from(number) % KINDS.len()]).number
 }
 
 fn description(c: &mut Chance) -> Description {
-    let number = if c.one_in(200) { c.of(&[0usize, 5, 9]) } else { 1 + c.below(4) as usize };
-    let mut kinds: Vec<u8> = (0..number).map(|_| c.below(4) as u8).collect();
+    let most = *limits::DIMENSIONS.end();
+    let number = if c.one_in(200) { c.of(&[0, most + 1, 9]) } else { 1 + c.below(most) };
+    let mut kinds: Vec<u8> = (0..number).map(|_| some_kind(c)).collect();
     if c.one_in(200) && number > 0 {
-        kinds[c.below(number as u64) as usize] = c.of(&[4, 5, 255]);
+        kinds[c.below(number) as usize] = c.of(&no_kinds());
     }
-    let fields = if c.one_in(200) { c.of(&[0, 65, u64::MAX]) } else { 1 + c.below(3) };
-    let capacity = if c.one_in(200) { c.of(&[0, 1_000_000_001, u64::MAX]) } else { c.of(&[1, 10, 1_000_000_000]) };
+    let fields = if c.one_in(200) { c.of(&[0, limits::FIELDS.end() + 1, u64::MAX]) } else { 1 + c.below(3) };
+    let most = *limits::CAPACITY.end();
+    let capacity = if c.one_in(200) { c.of(&[0, most + 1, u64::MAX]) } else { c.of(&[1, 10, most]) };
     Description { kinds, fields, capacity }
 }
 
 /// The description with every kind in its place, to make pieces that would fit it.
 fn plain(d: &Description) -> Description {
-    let kinds = d.kinds.iter().take(4).map(|k| k % 4).collect::<Vec<_>>();
-    let kinds = if kinds.is_empty() { vec![0] } else { kinds };
-    Description { kinds, fields: d.fields.clamp(1, 3), capacity: d.capacity.clamp(1, 1_000_000_000) }
+    let kinds = d.kinds.iter().take(*limits::DIMENSIONS.end() as usize).map(|k| known(*k)).collect::<Vec<_>>();
+    let kinds = if kinds.is_empty() { vec![INT32.number] } else { kinds };
+    Description { kinds, fields: d.fields.clamp(1, 3), capacity: d.capacity.clamp(1, *limits::CAPACITY.end()) }
 }
 
 type Box_ = Vec<(i64, i64)>;
@@ -192,7 +220,7 @@ fn footer(c: &mut Chance, d: &Description, tiles: u64, domain: &Box_) -> Foot {
         data.push(if bad(c) { c.of(&[1, 2, 255]) } else { 0 });
     }
     data.extend(bytes(c, &d.kinds, domain));
-    data.extend(if bad(c) { c.of(&[0u64, 65_537, u64::MAX]) } else { tiles }.to_le_bytes());
+    data.extend(if bad(c) { c.of(&[0, limits::TILES.end() + 1, u64::MAX]) } else { tiles }.to_le_bytes());
     data.extend(if bad(c) { c.of(&[0u64, d.capacity + 1, u64::MAX]) } else { 1 + c.below(d.capacity) }.to_le_bytes());
     for _ in 0..2 {
         data.push(if bad(c) { 2 } else { c.below(2) as u8 });
@@ -210,21 +238,22 @@ fn footer(c: &mut Chance, d: &Description, tiles: u64, domain: &Box_) -> Foot {
 fn window(c: &mut Chance, d: &Description) -> (Vec<u8>, Vec<u8>) {
     let mut kinds: Vec<u8> = d.kinds.clone();
     match c.below(60) {
-        0 => kinds.push(c.below(4) as u8),
+        0 => kinds.push(some_kind(c)),
         1 => {
             kinds.pop();
         }
-        2 if !kinds.is_empty() => kinds[0] = c.of(&[0, 1, 2, 3, 4, 255]),
-        3 if !kinds.is_empty() => *kinds.last_mut().unwrap() = c.of(&[0, 1, 2, 3, 4, 255]),
+        2 if !kinds.is_empty() => kinds[0] = any_number(c),
+        3 if !kinds.is_empty() => *kinds.last_mut().unwrap() = any_number(c),
         _ => (),
     }
     let mut ends = vec![];
     for kind in &kinds {
         let low = c.below(120) as i64 - 40;
         let high = low + c.of(&[0i64, 0, 3, 20, 100, -1]);
-        let k = kind % 4;
+        let k = known(*kind);
+        let nans = nans(k);
         for x in [low, high] {
-            let bytes = if k >= 2 && c.one_in(60) { nan(c, k) } else { end(c, k, x) };
+            let bytes = if !nans.is_empty() && c.one_in(60) { nans[c.below(nans.len() as u64) as usize].clone() } else { end(c, k, x) };
             ends.extend(bytes);
         }
     }
@@ -238,7 +267,7 @@ fn window(c: &mut Chance, d: &Description) -> (Vec<u8>, Vec<u8>) {
 }
 
 fn list(c: &mut Chance, sum: bool) -> (u64, u64, Vec<u8>) {
-    let n = if c.one_in(50) { c.of(&[0, 65_537, u64::MAX]) } else { 1 + c.below(20) };
+    let n = if c.one_in(50) { c.of(&[0, limits::TILES.end() + 1, u64::MAX]) } else { 1 + c.below(20) };
     let count = n.min(30);
     let mut entries = vec![];
     let mut next = 0u64;
@@ -265,7 +294,7 @@ fn damage_list(c: &mut Chance, data: &mut Vec<u8>) {
 
 /// Four files of a report, and room around what its text needs.
 fn report(c: &mut Chance) -> Case {
-    let kinds: Vec<u8> = (0..1 + c.below(3)).map(|_| c.below(2) as u8).collect();
+    let kinds: Vec<u8> = (0..1 + c.below(3)).map(|_| c.of(&[INT32, INT64]).number).collect();
     let d = Description { kinds, fields: 1 + c.below(2), capacity: 1 + c.below(1000) };
     let mut t = tree(c, &d);
     let mut f = footer(c, &d, t.tiles, &t.root.clone());
@@ -276,7 +305,7 @@ fn report(c: &mut Chance) -> Case {
     }
     let size = starts.last().unwrap() + 1 + c.below(50);
     let mut numbers: Vec<i128> = vec![d.kinds.len() as i128];
-    numbers.extend(d.kinds.iter().map(|k| if *k == 0 { 32 } else { 64 }));
+    numbers.extend(d.kinds.iter().map(|k| if *k == INT32.number { 32 } else { 64 }));
     numbers.extend([d.fields as i128, d.capacity as i128, f.file_size as i128, size as i128]);
     for _ in &d.kinds {
         let low = c.below(100) as i128 - 40;
@@ -341,7 +370,7 @@ pub fn make(c: &mut Chance) -> Case {
     let mut t = tree(c, &p);
     if what < 4 {
         let (kinds, ends) = window(c, &d);
-        let tiles = if c.one_in(40) { c.of(&[0, t.tiles + 1, 65_537, u64::MAX]) } else { t.tiles };
+        let tiles = if c.one_in(40) { c.of(&[0, t.tiles + 1, limits::TILES.end() + 1, u64::MAX]) } else { t.tiles };
         if c.one_in(3) {
             damage(c, &mut t.body);
         }

@@ -102,7 +102,7 @@ fn main() {
         }
     }
     if first == 0 && inputs >= 100_000 {
-        for number in 0..=20 {
+        for number in 0..=rules::refusal::SUM {
             assert!(tally.refusals.contains_key(&number), "no input was refused with {number}");
         }
         assert!(tally.guarded >= 5_000);

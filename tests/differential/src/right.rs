@@ -63,13 +63,15 @@ pub fn right(case: &Case) -> (Vec<u64>, Vec<u32>) {
 
 fn footer_numbers(d: &rules::Description, file_size: u64, data: &[u8], tile: u64) -> Vec<u64> {
     let mut answer = vec![];
-    let no_side = [1u64, 0, 0];
+    let no_side = [rules::INT64.number as u64, 0, 0];
+    let most = |limits: std::ops::RangeInclusive<u64>| *limits.end() as usize;
+    let (dimensions, fields) = (most(rules::limits::DIMENSIONS), most(rules::limits::FIELDS));
     match rules::footer(d, file_size, data) {
         Ok(f) => {
             answer.extend([0, 0]);
             answer.extend(&f.numbers);
             let mut at = f.domain_at;
-            for i in 0..4 {
+            for i in 0..dimensions {
                 match d.kinds.get(i) {
                     Some(kind) => {
                         let half = rules::width(*kind) / 2;
@@ -81,7 +83,7 @@ fn footer_numbers(d: &rules::Description, file_size: u64, data: &[u8], tile: u64
             }
             for list in &f.lists {
                 let mut places = list.clone();
-                places.resize(64, 0);
+                places.resize(fields, 0);
                 answer.extend(places);
             }
             answer.extend([f.name.0 as u64, f.name.1 as u64]);
@@ -89,11 +91,10 @@ fn footer_numbers(d: &rules::Description, file_size: u64, data: &[u8], tile: u64
         }
         Err(r) => {
             answer.extend(refused(&r, 12));
-            for _ in 0..4 {
+            for _ in 0..dimensions {
                 answer.extend(no_side);
             }
-            answer.extend([0; 11 * 64]);
-            answer.extend([0, 0, 0, 0]);
+            answer.resize(answer.len() + 11 * fields + 4, 0);
         }
     }
     answer

@@ -1,6 +1,61 @@
 //! The rules of docs/RULES.md, worked out plainly and slowly: every check where the rules name it, every box by itself.
 
-pub const MOST_TILES: u64 = 65_536;
+/// TileDB's Datatype number, and the bytes of a range.
+#[derive(Clone, Copy)]
+pub struct Kind {
+    pub number: u8,
+    pub range_bytes: usize,
+    read: fn(&[u8]) -> End,
+}
+
+pub const INT32: Kind = Kind { number: 0, range_bytes: 8, read: |end| End::Int(number(end, 0, 4) as u32 as i32 as i64) };
+pub const INT64: Kind = Kind { number: 1, range_bytes: 16, read: |end| End::Int(number(end, 0, 8) as i64) };
+pub const FLOAT32: Kind = Kind { number: 2, range_bytes: 8, read: |end| End::Single(f32::from_bits(number(end, 0, 4) as u32)) };
+pub const FLOAT64: Kind = Kind { number: 3, range_bytes: 16, read: |end| End::Double(f64::from_bits(number(end, 0, 8))) };
+
+pub const KINDS: [Kind; 4] = [INT32, INT64, FLOAT32, FLOAT64];
+
+/// The kind of a number, if it is one.
+pub fn kind(number: u8) -> Option<Kind> {
+    KINDS.into_iter().find(|kind| kind.number == number)
+}
+
+/// Least and most.
+pub mod limits {
+    use std::ops::RangeInclusive;
+
+    pub const DIMENSIONS: RangeInclusive<u64> = 1..=4;
+    pub const FIELDS: RangeInclusive<u64> = 1..=64;
+    pub const CAPACITY: RangeInclusive<u64> = 1..=1_000_000_000;
+    pub const VERSION: RangeInclusive<u64> = 16..=21;
+    pub const NAME: RangeInclusive<u64> = 1..=255;
+    pub const TILES: RangeInclusive<u64> = 1..=65_536;
+    pub const FANOUT: RangeInclusive<u64> = 2..=1_024;
+}
+
+/// The refusal numbers.
+pub mod refusal {
+    pub const DESCRIPTION: u64 = 1;
+    pub const BYTES: u64 = 2;
+    pub const VERSION: u64 = 3;
+    pub const NAME_SIZE: u64 = 4;
+    pub const FLAG: u64 = 5;
+    pub const DENSE: u64 = 6;
+    pub const NULL_DOMAIN: u64 = 7;
+    pub const NOT_A_NUMBER: u64 = 8;
+    pub const REVERSED: u64 = 9;
+    pub const TILES: u64 = 10;
+    pub const LAST_CELLS: u64 = 11;
+    pub const OFFSET: u64 = 12;
+    pub const FANOUT: u64 = 13;
+    pub const LEVELS: u64 = 14;
+    pub const OUTSIDE_PARENT: u64 = 15;
+    pub const OUTSIDE_DOMAIN: u64 = 16;
+    pub const COUNT: u64 = 17;
+    pub const TILE_OFFSETS: u64 = 18;
+    pub const WINDOW: u64 = 19;
+    pub const SUM: u64 = 20;
+}
 
 #[derive(Clone, Copy, Debug, PartialEq)]
 pub struct Refused {
@@ -23,20 +78,18 @@ pub struct Description {
     pub capacity: u64,
 }
 
-pub fn width(kind: u8) -> usize {
-    match kind {
-        0 | 2 => 8,
-        _ => 16,
-    }
+/// The bytes of a range. A number that is no kind is refused before anything after it is read, so that any number does for it.
+pub fn width(number: u8) -> usize {
+    kind(number).unwrap_or(FLOAT64).range_bytes
 }
 
 impl Description {
     pub fn check(&self) -> Answer<()> {
-        let kinds = (1..=4).contains(&self.kinds.len()) && self.kinds.iter().all(|k| *k <= 3);
-        if kinds && (1..=64).contains(&self.fields) && (1..=1_000_000_000).contains(&self.capacity) {
+        let kinds = limits::DIMENSIONS.contains(&(self.kinds.len() as u64)) && self.kinds.iter().all(|k| kind(*k).is_some());
+        if kinds && limits::FIELDS.contains(&self.fields) && limits::CAPACITY.contains(&self.capacity) {
             Ok(())
         } else {
-            refuse(1, 0)
+            refuse(refusal::DESCRIPTION, 0)
         }
     }
 
@@ -58,13 +111,9 @@ pub enum End {
 }
 
 impl End {
-    pub fn read(kind: u8, data: &[u8], at: usize) -> End {
-        match kind {
-            0 => End::Int(number(data, at, 4) as u32 as i32 as i64),
-            1 => End::Int(number(data, at, 8) as i64),
-            2 => End::Single(f32::from_bits(number(data, at, 4) as u32)),
-            _ => End::Double(f64::from_bits(number(data, at, 8))),
-        }
+    /// An end of a kind; a number that is no kind is refused before its ends are looked at, so that any end does for it.
+    pub fn read(number: u8, data: &[u8], at: usize) -> End {
+        (kind(number).unwrap_or(FLOAT64).read)(data.get(at..).unwrap_or(&[]))
     }
 
     pub fn is_nan(self) -> bool {
@@ -100,10 +149,10 @@ pub fn stored_box(kinds: &[u8], data: &[u8], mut at: usize) -> Vec<Range> {
 fn check_ranges(kinds: &[u8], data: &[u8], mut at: usize) -> Answer<()> {
     for (kind, (low, high)) in kinds.iter().zip(stored_box(kinds, data, at)) {
         if low.is_nan() || high.is_nan() {
-            return refuse(8, at);
+            return refuse(refusal::NOT_A_NUMBER, at);
         }
         if !low.at_most(high) {
-            return refuse(9, at);
+            return refuse(refusal::REVERSED, at);
         }
         at += width(*kind);
     }
@@ -131,27 +180,27 @@ pub struct Footer {
 pub fn footer(d: &Description, file_size: u64, data: &[u8]) -> Answer<Footer> {
     d.check()?;
     if data.len() < 12 {
-        return refuse(2, data.len());
+        return refuse(refusal::BYTES, data.len());
     }
     let version = number(data, 0, 4);
-    if !(16..=21).contains(&version) {
-        return refuse(3, 0);
+    if !limits::VERSION.contains(&version) {
+        return refuse(refusal::VERSION, 0);
     }
     let size = number(data, 4, 8);
-    if !(1..=255).contains(&size) {
-        return refuse(4, 4);
+    if !limits::NAME.contains(&size) {
+        return refuse(refusal::NAME_SIZE, 4);
     }
     let (n, size) = (d.fields as usize, size as usize);
     let total = 64 + size + d.box_bytes() + 88 * n;
     if data.len() != total || file_size < total as u64 {
-        return refuse(2, data.len());
+        return refuse(refusal::BYTES, data.len());
     }
     let mut at = 12 + size;
-    for number_of_one in [6, 7] {
+    for number_of_one in [refusal::DENSE, refusal::NULL_DOMAIN] {
         match data[at] {
             0 => (),
             1 => return refuse(number_of_one, at),
-            _ => return refuse(5, at),
+            _ => return refuse(refusal::FLAG, at),
         }
         at += 1;
     }
@@ -160,18 +209,18 @@ pub fn footer(d: &Description, file_size: u64, data: &[u8]) -> Answer<Footer> {
     let domain = stored_box(&d.kinds, data, at);
     at += d.box_bytes();
     let tiles = number(data, at, 8);
-    if !(1..=MOST_TILES).contains(&tiles) {
-        return refuse(10, at);
+    if !limits::TILES.contains(&tiles) {
+        return refuse(refusal::TILES, at);
     }
     let last_cells = number(data, at + 8, 8);
     if !(1..=d.capacity).contains(&last_cells) {
-        return refuse(11, at + 8);
+        return refuse(refusal::LAST_CELLS, at + 8);
     }
     at += 16;
     let mut flags = [0u64; 2];
     for flag in &mut flags {
         if data[at] > 1 {
-            return refuse(5, at);
+            return refuse(refusal::FLAG, at);
         }
         *flag = data[at] as u64;
         at += 1;
@@ -185,7 +234,7 @@ pub fn footer(d: &Description, file_size: u64, data: &[u8]) -> Answer<Footer> {
     let offset = |at: &mut usize| -> Answer<u64> {
         let value = number(data, *at, 8);
         if value >= limit {
-            return refuse(12, *at);
+            return refuse(refusal::OFFSET, *at);
         }
         *at += 8;
         Ok(value)
@@ -202,7 +251,7 @@ pub fn footer(d: &Description, file_size: u64, data: &[u8]) -> Answer<Footer> {
     let conditions = offset(&mut at)?;
     let length = number(data, at, 8);
     if length != total as u64 - 8 {
-        return refuse(2, data.len());
+        return refuse(refusal::BYTES, data.len());
     }
     let numbers = vec![version, size as u64, 0, 0, tiles, last_cells, flags[0], flags[1], rtree, fragment, conditions, length];
     Ok(Footer { numbers, name: (12, size), domain, domain_at, lists, tiles, last_cells })
@@ -227,11 +276,11 @@ pub struct Shape {
 
 pub fn shape(d: &Description, n: u64, body: &[u8]) -> Answer<Shape> {
     if body.len() < 8 {
-        return refuse(2, body.len());
+        return refuse(refusal::BYTES, body.len());
     }
     let fanout = number(body, 0, 4);
-    if !(2..=1024).contains(&fanout) {
-        return refuse(13, 0);
+    if !limits::FANOUT.contains(&fanout) {
+        return refuse(refusal::FANOUT, 0);
     }
     let mut counts = vec![n];
     while counts[0] > 1 {
@@ -239,17 +288,17 @@ pub fn shape(d: &Description, n: u64, body: &[u8]) -> Answer<Shape> {
         counts.insert(0, above);
     }
     if number(body, 4, 4) != counts.len() as u64 {
-        return refuse(14, 4);
+        return refuse(refusal::LEVELS, 4);
     }
     let b = d.box_bytes();
     let boxes: u64 = counts.iter().sum();
     if body.len() != 8 + 8 * counts.len() + b * boxes as usize {
-        return refuse(2, body.len());
+        return refuse(refusal::BYTES, body.len());
     }
     let (mut starts, mut at) = (vec![], 8);
     for count in &counts {
         if number(body, at, 8) != *count {
-            return refuse(14, at);
+            return refuse(refusal::LEVELS, at);
         }
         starts.push(at + 8);
         at += 8 + b * *count as usize;
@@ -272,12 +321,12 @@ fn second(d: &Description, f: &Footer, body: &[u8]) -> Answer<(u64, u64, u64)> {
             let here = stored_box(&d.kinds, body, at);
             if level == 0 {
                 if !inside(&here, &f.domain) {
-                    return refuse(16, at);
+                    return refuse(refusal::OUTSIDE_DOMAIN, at);
                 }
             } else {
                 let parent = s.starts[level - 1] + (k / s.fanout) as usize * b;
                 if !inside(&here, &stored_box(&d.kinds, body, parent)) {
-                    return refuse(15, at);
+                    return refuse(refusal::OUTSIDE_PARENT, at);
                 }
             }
         }
@@ -300,22 +349,22 @@ pub fn window_of(kinds: &[u8], ends: &[u8]) -> Vec<Range> {
 
 pub fn query(d: &Description, n: u64, body: &[u8], kinds: &[u8], ends: &[u8]) -> Answer<(Vec<u32>, u64)> {
     d.check()?;
-    if !(1..=MOST_TILES).contains(&n) {
-        return refuse(10, 0);
+    if !limits::TILES.contains(&n) {
+        return refuse(refusal::TILES, 0);
     }
     if kinds.len() != d.kinds.len() {
-        return refuse(19, 0);
+        return refuse(refusal::WINDOW, 0);
     }
     let window = window_of(kinds, ends);
     for (i, (low, high)) in window.iter().enumerate() {
         if kinds[i] != d.kinds[i] {
-            return refuse(19, i);
+            return refuse(refusal::WINDOW, i);
         }
         if low.is_nan() || high.is_nan() {
-            return refuse(8, i);
+            return refuse(refusal::NOT_A_NUMBER, i);
         }
         if !low.at_most(*high) {
-            return refuse(9, i);
+            return refuse(refusal::REVERSED, i);
         }
     }
     let s = shape(d, n, body)?;
@@ -356,17 +405,17 @@ pub fn flat(d: &Description, s: &Shape, body: &[u8], window: &[Range]) -> (Vec<u
 }
 
 fn entries(n: u64, data: &[u8]) -> Answer<Vec<u64>> {
-    if !(1..=MOST_TILES).contains(&n) {
-        return refuse(10, 0);
+    if !limits::TILES.contains(&n) {
+        return refuse(refusal::TILES, 0);
     }
     if data.len() < 8 {
-        return refuse(2, data.len());
+        return refuse(refusal::BYTES, data.len());
     }
     if number(data, 0, 8) != n {
-        return refuse(17, 0);
+        return refuse(refusal::COUNT, 0);
     }
     if data.len() as u64 != 8 + 8 * n {
-        return refuse(2, data.len());
+        return refuse(refusal::BYTES, data.len());
     }
     Ok((0..n as usize).map(|i| number(data, 8 + 8 * i, 8)).collect())
 }
@@ -376,7 +425,7 @@ pub fn offsets(n: u64, size: u64, data: &[u8]) -> Answer<Vec<u64>> {
     for (i, x) in list.iter().enumerate() {
         let in_order = if i == 0 { *x == 0 } else { *x > list[i - 1] };
         if !in_order || *x >= size {
-            return refuse(18, 8 + 8 * i);
+            return refuse(refusal::TILE_OFFSETS, 8 + 8 * i);
         }
     }
     Ok(list)
@@ -397,7 +446,7 @@ pub fn sizes(n: u64, data: &[u8]) -> Answer<u64> {
     for (i, x) in entries(n, data)?.iter().enumerate() {
         sum += *x as u128;
         if sum >= 1 << 64 {
-            return refuse(20, 8 + 8 * i);
+            return refuse(refusal::SUM, 8 + 8 * i);
         }
     }
     Ok(sum as u64)
@@ -433,12 +482,12 @@ fn asked(text: &[u8]) -> Option<Asked> {
     let mut lines = lines.into_iter();
     let mut number = |low: i128, high: i128| lines.next().and_then(decimal).filter(|x| (low..=high).contains(x));
     let most = u64::MAX as i128;
-    let dimensions = number(1, 4)?;
+    let dimensions = number(*limits::DIMENSIONS.start() as i128, *limits::DIMENSIONS.end() as i128)?;
     let mut kinds = vec![];
     for _ in 0..dimensions {
         kinds.push(match number(32, 64)? {
-            32 => 0,
-            64 => 1,
+            32 => INT32.number,
+            64 => INT64.number,
             _ => return None,
         });
     }
@@ -447,7 +496,7 @@ fn asked(text: &[u8]) -> Option<Asked> {
     let mut ends = vec![];
     for kind in &kinds {
         for _ in 0..2 {
-            if *kind == 0 {
+            if *kind == INT32.number {
                 ends.extend((number(i32::MIN as i128, i32::MAX as i128)? as i32).to_le_bytes());
             } else {
                 ends.extend((number(i64::MIN as i128, i64::MAX as i128)? as i64).to_le_bytes());
@@ -473,7 +522,7 @@ pub fn report(description: &[u8], foot: &[u8], tree: &[u8], list: &[u8]) -> Vec<
 }
 
 fn listing(description: &[u8], foot: &[u8], tree: &[u8], list: &[u8]) -> Answer<String> {
-    let Some(a) = asked(description) else { return refuse(1, 0) };
+    let Some(a) = asked(description) else { return refuse(refusal::DESCRIPTION, 0) };
     let (n, _, _) = open(&a.d, a.file_size, foot, tree)?;
     let starts = offsets(n, a.size, list)?;
     let (found, looked) = query(&a.d, n, tree, &a.d.kinds, &a.ends)?;

@@ -9,9 +9,9 @@ use Rattle.answers.specs.Refusals.{none}
 use Rattle.answers.specs.Checks.{otherwise, each}
 use Rattle.answers.proofs.Runs.{over-start}
 use Rattle.answers.proofs.Checks.{past-left, stop-left, none-left}
-use Rattle.boxes.specs.Description.{sideStart}
+use Rattle.description.specs.Description.{sideStart}
 use Rattle.boxes.specs.Boxes.{rangesRefusal}
-use Rattle.boxes.proofs.Sides.{start-first}
+use Rattle.description.proofs.Sides.{start-first}
 use Rattle.boxes.proofs.Walking.{toldAt, next-place, place-fits, told-here}
 use Rattle.boxes.proofs.check_ranges.Statement.{statement}
 use Rattle.boxes.proofs.check_ranges.Tie as tie
@@ -30,16 +30,16 @@ loop-holds c =
     (omega arith, sym (start-first (a .t2)), over-start otherwise none (toldAt (a .t2) (a .bytes .now) 0) (c .sides-of .result))
 
 -- what is told of the range that was read is what the definition tells of dimension i
-told : (c : tie.After-refusal Inv-loop μ-loop) →
+told : (c : tie.After-stored Inv-loop μ-loop) →
     let l = c .before .before .before .before .before in
     let a = l .before .before .before .args in
-    c .refusal .result ≡ toldAt (a .t2) (a .bytes .now) 0 (l .loop .i)
+    c .stored .result ≡ toldAt (a .t2) (a .bytes .now) 0 (l .loop .i)
 told c =
     let r = c .before .before in
     let l = r .before .before .before in
     let s = l .before .before in
     told-here _ _ _ (l .loop .inv .1) (s .before .args .bytes .now) (λ j. s .shared-slice-known .given j .fits)
-    _ (r .range-at .ensures) _ _ (c .before .judge .ensures) (c .refusal .ensures)
+    _ (r .read .ensures) _ _ (c .before .verdict .ensures) (c .stored .ensures)
 
 returns : tie.Need-returns Inv-loop μ-loop
 returns c =

@@ -8,16 +8,16 @@ use borrow.Author.Needs.{needs}
 use borrow.Author.Tests.{eq-eqb, ne-eqb}
 use Rattle.answers.proofs.Checks.{past-check, stop-check}
 use Rattle.answers.specs.Checks.{first}
-use Rattle.boxes.specs.declared.Judged.{Judged}
-use Rattle.boxes.specs.declared.Judged.the-variants.{Sound, NotANumber, Reversed}
-use Rattle.boxes.specs.Kinds.{kindNumber}
-use Rattle.boxes.specs.Ranges.{endsOf, judged, judgedRefusal}
+use Rattle.ranges.specs.declared.Verdict.{Verdict}
+use Rattle.ranges.specs.declared.Verdict.the-variants.{Sound, NotANumber, Reversed}
+use Rattle.description.specs.Kinds.{datatype}
+use Rattle.ranges.specs.Ranges.{endsOf, verdict, askedRefusal}
 use Rattle.boxes.specs.Windows.{sideRefusal}
 use Rattle.boxes.proofs.check_side.Statement.{statement}
 use Rattle.boxes.proofs.check_side.Tie as tie
 
 -- what is told of a range refuses by a number, or says nothing at all
-alone : (j : Judged) (place : ℕ) → first (judgedRefusal j place ∷ []) ≡ judgedRefusal j place
+alone : (j : Verdict) (place : ℕ) → first (askedRefusal j place ∷ []) ≡ askedRefusal j place
 unfolding first
 alone (Sound r) place = refl
 alone NotANumber place = refl
@@ -27,9 +27,9 @@ returns : tie.Need-returns
 unfolding sideRefusal
 returns c =
     let n = c .before .before in
-    let e = n .before .number .ensures ∙ ap kindNumber (n .before .before .kind .ensures) in
+    let e = n .before .datatype .ensures ∙ ap datatype (n .before .before .kind .ensures) in
     c .new .ensures
-    ∙ sym (stop-check _ _ _ _ (ap not (ne-eqb _ _ (λ h. c .before .if1 .taken (e ∙ h ∙ sym (n .number2 .ensures))))) (omega arith))
+    ∙ sym (stop-check _ _ _ _ (ap not (ne-eqb _ _ (λ h. c .before .if1 .taken (e ∙ h ∙ sym (n .datatype2 .ensures))))) (omega arith))
 
 returns-2 : tie.Need-returns-2
 unfolding sideRefusal
@@ -38,12 +38,12 @@ returns-2 c =
     let n = j .before .before in
     let a = n .before .before .before .args in
     let p = a .place in
-    let e = n .before .number .ensures ∙ ap kindNumber (n .before .before .kind .ensures) in
-    c .refusal .ensures
-    ∙ ap (λ (x : Judged). judgedRefusal x p) (j .judge .ensures)
+    let e = n .before .datatype .ensures ∙ ap datatype (n .before .before .kind .ensures) in
+    c .asked .ensures
+    ∙ ap (λ (x : Verdict). askedRefusal x p) (j .verdict .ensures)
     ∙ sym (
-    past-check _ _ _ _ (ap not (eq-eqb _ _ (sym e ∙ j .before .if1 .left ∙ n .number2 .ensures)))
-    ∙ alone (judged (endsOf (a .range)) (a .range)) p
+    past-check _ _ _ _ (ap not (eq-eqb _ _ (sym e ∙ j .before .if1 .left ∙ n .datatype2 .ensures)))
+    ∙ alone (verdict (endsOf (a .range)) (a .range)) p
     )
 
 pub check-side-spec : {M : Type 1} → statement M

@@ -13,7 +13,7 @@ use Rattle.answers.specs.declared.Refusal.{Refusal}
 use Rattle.answers.specs.Checks.{otherwise, each}
 use Rattle.answers.proofs.Runs.{over-start}
 use Rattle.answers.proofs.Checks.{past-check, stop-check, past, stop, ended, past-left, stop-left, none-left}
-use Rattle.boxes.specs.Description.{sidesOf}
+use Rattle.description.specs.Description.{sidesOf}
 use Rattle.boxes.specs.Windows.{windowRefusal}
 use Rattle.boxes.proofs.Windows.{sideTold}
 use Rattle.boxes.proofs.check_window.Statement.{statement}

@@ -5,9 +5,9 @@ use mathlib.Core.Path.{_≡_, sym, ap, _∙_}
 use Prim.Native.Nat.{ℕ, _-_, _≤_}
 use native.Mathlib.Omega.{arith}
 use borrow.Author.Needs.{needs}
-use Rattle.boxes.specs.Description.{sideStart}
+use Rattle.description.specs.Description.{sideStart}
 use Rattle.boxes.specs.Boxes.{boxOf}
-use Rattle.boxes.proofs.Sides.{start-first}
+use Rattle.description.proofs.Sides.{start-first}
 use Rattle.boxes.proofs.Walking.{next-place, place-fits, box-none, box-next}
 use Rattle.boxes.proofs.read_box.Statement.{statement}
 use Rattle.boxes.proofs.read_box.Tie as tie
@@ -48,7 +48,7 @@ loop-again c =
     let a = l .before .before .before .before .args in (
       omega (arith, d .before .loop-test),
       next-place _ _ _ (l .loop .inv .1) _ (c .range-bytes .ensures),
-      rw (l .loop .inv .2, c .before .range-at .ensures, l .loop .inv .1)
+      rw (l .loop .inv .2, c .before .read .ensures, l .loop .inv .1)
           (box-next (a .t2) (a .bytes .now) (l .loop .i) (omega (arith, l .loop .inv, l .before .sides-of .ensures, d .before .loop-test))),
     )
 

@@ -1,4 +1,4 @@
--- `c_api::all_kinds` meets its contract: the four tests in turn. Assumes nothing.
+-- `c_api::all_kinds` meets its contract: the four in turn. Assumes nothing.
 use borrow.Author.Needs.{needs}
 use Rattle.c_api.specs.Described.{allKinds}
 use Rattle.c_api.proofs.all_kinds.Statement.{statement}
@@ -9,4 +9,14 @@ unfolding allKinds
 returns c = cc
 
 pub all-kinds-spec : {M : Type 1} → statement M
-all-kinds-spec = tie.close (tie.spec (λ c κs. search needs) (λ c κs. search needs) (λ c κs. search needs) (λ c κs. search needs) (λ c κs. search needs) (λ c κs. search needs) (λ c κs. search needs) (λ c κs. search needs) (λ c κs. search needs) (λ c κs. search needs) (λ c κs. search needs) returns)
+all-kinds-spec =
+    tie.close
+    (tie.spec
+    (λ c κs. search needs)
+    (λ c κs. search needs)
+    (λ c κs. search needs)
+    (λ c κs. search needs)
+    (λ c κs. search needs)
+    (λ c κs. search needs)
+    (λ c κs. search needs)
+    returns)

@@ -9,4 +9,5 @@ unfolding describe
 returns c = cc
 
 pub describe-spec : {M : Type 1} → statement M
-describe-spec = tie.close (tie.spec (λ c κs. search needs) (λ c κs. search needs) (λ c κs. search needs) returns)
+describe-spec =
+    tie.close (tie.spec (λ c κs. search needs) (λ c κs. search needs) (λ c κs. search needs) returns)

@@ -1,12 +1,16 @@
--- `c_api::number_at` meets its contract: past the end the definition has 0 too. Assumes nothing.
-use mathlib.Core.Path.{sym}
+-- `c_api::number_at` meets its contract: a byte fits a u64, and past the end the definition has 0 too. Assumes nothing.
 use borrow.Author.Needs.{needs}
+use mathlib.Core.Path.{sym}
+use native.Mathlib.Omega.{arith}
 use lib.ListN.{List·getD-eq-default}
 use Rattle.c_api.proofs.number_at.Statement.{statement}
 use Rattle.c_api.proofs.number_at.Tie as tie
 
+cast-result : tie.Need-cast-result
+cast-result c = omega (arith, c .shared-slice-known .given (c .before .before .args .i))
+
 returns-2 : tie.Need-returns-2
-returns-2 c = sym (List·getD-eq-default (c .before .args .kinds .now) 0 (c .if1 .left))
+returns-2 c = sym (List·getD-eq-default (c .before .args .numbers .now) 0 (c .if1 .left))
 
 pub number-at-spec : {M : Type 1} → statement M
-number-at-spec = tie.close (tie.spec (λ c. search needs) (λ c. search needs) returns-2)
+number-at-spec = tie.close (tie.spec (λ c. search needs) cast-result (λ c. search needs) returns-2)

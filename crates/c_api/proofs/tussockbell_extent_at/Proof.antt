@@ -1,6 +1,6 @@
 -- `c_api::tussockbell_extent_at` meets its contract: the library's own answer, place by place. Assumes nothing.
-use mathlib.Core.Path.{ap}
 use borrow.Author.Needs.{needs}
+use mathlib.Core.Path.{ap}
 use Rattle.c_api.specs.Places.{extentPlaces}
 use Rattle.c_api.proofs.tussockbell_extent_at.Statement.{statement}
 use Rattle.c_api.proofs.tussockbell_extent_at.Tie as tie

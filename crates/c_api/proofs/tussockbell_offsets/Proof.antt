@@ -1,6 +1,6 @@
 -- `c_api::tussockbell_offsets` meets its contract: the library's own answer, place by place. Assumes nothing.
-use mathlib.Core.Path.{ap}
 use borrow.Author.Needs.{needs}
+use mathlib.Core.Path.{ap}
 use Rattle.c_api.specs.Places.{offsetsPlaces}
 use Rattle.c_api.proofs.tussockbell_offsets.Statement.{statement}
 use Rattle.c_api.proofs.tussockbell_offsets.Tie as tie

@@ -1,6 +1,6 @@
 -- `c_api::tussockbell_sizes` meets its contract: the library's own answer, place by place. Assumes nothing.
-use mathlib.Core.Path.{ap}
 use borrow.Author.Needs.{needs}
+use mathlib.Core.Path.{ap}
 use Rattle.c_api.specs.Places.{sizesPlaces}
 use Rattle.c_api.proofs.tussockbell_sizes.Statement.{statement}
 use Rattle.c_api.proofs.tussockbell_sizes.Tie as tie

@@ -1,6 +1,6 @@
 -- `c_api::tussockbell_total_cells` meets its contract: the library's own answer. Assumes nothing.
-use mathlib.Core.Path.{_∙_}
 use borrow.Author.Needs.{needs}
+use mathlib.Core.Path.{_∙_}
 use Rattle.c_api.proofs.tussockbell_total_cells.Statement.{statement}
 use Rattle.c_api.proofs.tussockbell_total_cells.Tie as tie
 

@@ -1,79 +1,63 @@
--- `footer::check` meets its contract: where no check refuses, every place is inside the bytes, and the fields are read at their starts.
--- Assumes nothing.
-use mathlib.Core.Path.{_≡_, sym}
-use Prim.Native.Nat.{_-_}
+-- `footer::check` meets its contract: where no check refuses, the domain and the tile number stand where the definition
+-- has them. Assumes nothing.
+use mathlib.Core.Path.{_≡_, refl, sym}
+use Prim.Native.Nat.{_+_, _≤_}
 use native.Mathlib.Omega.{arith}
 use borrow.Author.Needs.{needs}
-use Rattle.boxes.specs.Description.{boxBytes}
+use Rattle.description.specs.Limits.{mostName}
+use Rattle.description.specs.Description.{boxBytes}
 use Rattle.footer.specs.Fields.{start}
 use Rattle.footer.specs.Answer.{acceptedChecked, refusedChecked}
-use Rattle.footer.proofs.Body.{named}
-use Rattle.footer.proofs.Accepted.{accepted, checked-accepted, checked-refused}
+use Rattle.footer.proofs.Fields.{start-domain, start-tiles, after}
+use Rattle.footer.proofs.Passed.{Passed, passed, checked-passed, checked-refused}
 use Rattle.footer.proofs.check.Statement.{statement}
 use Rattle.footer.proofs.check.Tie as tie
 
 returns : tie.Need-returns
 unfolding refusedChecked
 returns c =
-    let h = c .before .before .before in
+    let h = c .before .before in
     let a = h .before .before .args in
     let e = h .check-footer .ensures in
-    rw (e, c .no-box .ensures) (sym (checked-refused (a .description) (a .file-size) (a .bytes .now) (rw e at (c .before .if1 .taken))))
+    rw e (sym (checked-refused (a .description) (a .file-size) (a .bytes .now) (rw e at (c .if1 .taken))))
 
-places-of-requires : tie.Need-places-of-requires
-places-of-requires c κs =
-    let h = c .before .before .before in
+whole : (c : tie.Else1) → (let a = c .before .before .before .before .args in Passed (a .description) (a .file-size) (a .bytes .now))
+whole c =
+    let h = c .before .before in
     let a = h .before .before .args in
-    let k = accepted (a .description) (a .file-size) (a .bytes .now) (rw (h .check-footer .ensures) at (c .before .if1 .left)) in
-    (rw (c .u64-at .ensures) (k .most-name), k .description .most-fields)
+    passed (a .description) (a .file-size) (a .bytes .now) (rw (h .check-footer .ensures) at (c .if1 .left))
 
-part-read-box-end : tie.Need-part-read-box-end
-unfolding start
-part-read-box-end c =
-    let u = c .before .before in
-    let h = u .before .before .before in
-    let a = h .before .before .args in
-    let d = a .description in
-    let k = accepted d (a .file-size) (a .bytes .now) (rw (h .check-footer .ensures) at (u .before .if1 .left)) in
-    let p = named (boxBytes d) (d .fields) (c .before .places-of .result) (u .u64-at .ensures) (c .before .places-of .ensures) in
-    omega (arith, p .tiles, k .all-bytes)
+small : (c : tie.After-u64-at)
+    → (c .u64-at .result ≤ mostName) × (boxBytes (c .before .before .before .before .before .args .description) ≤ 64)
+small c = (rw (c .u64-at .ensures) (whole (c .before) .head .most-name), whole (c .before) .head .description .most-bytes)
 
 returns-2 : tie.Need-returns-2
-unfolding start acceptedChecked
+unfolding acceptedChecked
 returns-2 c =
-    let r = c .before .before in
-    let o = r .before .before .before in
-    let u = o .before in
+    let t = c .before in
+    let b = t .before in
+    let u = b .before in
     let h = u .before .before .before in
     let a = h .before .before .args in
     let d = a .description in
-    let at = o .places-of .result in
-    let p = named (boxBytes d) (d .fields) at (u .u64-at .ensures) (o .places-of .ensures) in
-    let w : at .tiles - at .domain ≡ boxBytes d = omega (arith, p .tiles, p .domain) in
-    rw (
-      u .u64-at .ensures,
-      r .read-box .ensures,
-      c .before .u64-at2 .ensures,
-      c .u64-at3 .ensures,
-      w,
-      p .domain,
-      p .tiles,
-      p .last-cells,
-    ) (sym (checked-accepted d (a .file-size) (a .bytes .now) (rw (h .check-footer .ensures) at (u .before .if1 .left))))
+    let s = a .bytes .now in
+    let p : 14 + u .u64-at .result ≡ start d s "domain" = omega (arith, u .u64-at .ensures, start-domain d s) in
+    let q : 14 + u .u64-at .result + b .box-bytes .result ≡ start d s "tiles" =
+    omega (arith, u .u64-at .ensures, b .box-bytes .ensures, start-tiles d s) in
+    rw (c .u64-at3 .ensures, t .u64-at2 .ensures, q, after d s (start d s "tiles") _ refl refl .last-cells, p, u .u64-at .ensures)
+    (sym (checked-passed d (a .file-size) s (rw (h .check-footer .ensures) at (u .before .if1 .left))))
 
 pub check-spec : {M : Type 1} → statement M
 check-spec =
     tie.close
     (tie.spec
     (λ c κs. search needs)
-    (λ c κs. search needs)
     returns
     (λ c κs. search needs)
-    places-of-requires
-    (λ c. search needs)
-    (λ c. search needs)
-    part-read-box-end
+    (λ c. record { fits = omega (arith, small c) })
     (λ c κs. search needs)
+    (λ c. record { fits = omega (arith, small (c .before), c .box-bytes .ensures) })
     (λ c κs. search needs)
+    (λ c. record { fits = omega (arith, small (c .before .before), c .before .box-bytes .ensures) })
     (λ c κs. search needs)
     returns-2)

@@ -5,7 +5,7 @@ use native.Mathlib.Omega.{arith}
 use borrow.Author.Needs.{needs}
 use lib.ListN.{take, drop}
 use Rattle.answers.specs.declared.Refusal.{Refusal}
-use Rattle.boxes.specs.Description.{boxBytes, sidesOf}
+use Rattle.description.specs.Description.{boxBytes, sidesOf}
 use Rattle.footer.proofs.Domain.{ranges-place, ranges-clear, ranges-some}
 use Rattle.footer.proofs.check_domain.Statement.{statement}
 use Rattle.footer.proofs.check_domain.Tie as tie

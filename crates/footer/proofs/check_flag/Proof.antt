@@ -1,4 +1,5 @@
 -- `footer::check_flag` meets its contract: its test is the definition's. Assumes nothing.
+use mathlib.Core.Path.{_∙_}
 use borrow.Author.Needs.{needs}
 use Rattle.footer.specs.Checks.{noFlag}
 use Rattle.footer.proofs.check_flag.Statement.{statement}
@@ -6,7 +7,7 @@ use Rattle.footer.proofs.check_flag.Tie as tie
 
 returns : tie.Need-returns
 unfolding noFlag
-returns c = cc
+returns c = c .when .ensures ∙ rw (c .before .byte-at .ensures)
 
 pub check-flag-spec : {M : Type 1} → statement M
 check-flag-spec = tie.close (tie.spec (λ c κs. search needs) (λ c κs. search needs) returns)

@@ -5,16 +5,16 @@ use mathlib.Core.Path.{_≡_, sym, _∙_}
 use native.Mathlib.Omega.{arith}
 use borrow.Author.Needs.{needs}
 use Rattle.answers.proofs.Filled.{filled-none, filled-more}
-use Rattle.boxes.specs.Limits.{mostFields}
+use Rattle.description.specs.Limits.{mostFields}
 use Rattle.footer.specs.Answer.{entries}
 use Rattle.footer.proofs.list_at.Statement.{statement}
 use Rattle.footer.proofs.list_at.Tie as tie
 
 abbrev Inv-loop : tie.InvT-loop
-Inv-loop bytes at n list₀ i₀ list i = (i ≤ n) × (list ≡ entries bytes i at)
+Inv-loop bytes from k n at list₀ i₀ list i = (i ≤ n) × (list ≡ entries bytes i at)
 
 abbrev μ-loop : tie.MeasureT-loop
-μ-loop bytes at n list₀ i₀ list i = n - i
+μ-loop bytes from k n at list₀ i₀ list i = n - i
 
 loop-holds : tie.Need-loop-holds Inv-loop μ-loop
 unfolding entries
@@ -38,6 +38,9 @@ list-at-spec =
     (tie.spec
     Inv-loop
     μ-loop
+    (λ c. search needs)
+    (λ c. search needs)
+    (λ c. search needs)
     loop-holds
     (λ c. search needs)
     (λ c. search needs)

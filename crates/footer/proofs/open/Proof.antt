@@ -1,19 +1,15 @@
--- `footer::open` meets its contract: where the check does not refuse, every list is inside the bytes, and each field is read at its start.
--- Assumes nothing.
-use mathlib.Core.Path.{_≡_, sym, ap, _∙_}
-use mathlib.Core.List.{List}
-use Prim.Native.Nat.{ℕ}
+-- `footer::open` meets its contract: where the check does not refuse, the domain is inside the bytes, and then `read` has
+-- what it needs. Assumes nothing.
+use mathlib.Core.Path.{_≡_, sym, _∙_}
+use Prim.Native.Nat.{_+_, _-_}
 use native.Mathlib.Omega.{arith}
 use borrow.Author.Needs.{needs}
-use lib.ListN.{getD}
-use Rattle.order.specs.Little.{little}
-use Rattle.boxes.specs.Description.{boxBytes}
-use Rattle.footer.specs.Fields.{nameSize, start}
-use Rattle.footer.specs.Places.{Placed}
-use Rattle.footer.specs.Checks.{footerRefusal}
-use Rattle.footer.specs.Answer.{entries, acceptedChecked, refusedChecked, acceptedFooter}
-use Rattle.footer.proofs.Body.{named}
-use Rattle.footer.proofs.Accepted.{Accepted, accepted, checked-number, checked-accepted, checked-refused, footer-accepted, footer-refused}
+use Rattle.description.specs.Description.{sidesOf, boxBytes}
+use Rattle.boxes.specs.Boxes.{boxOf}
+use Rattle.footer.specs.Fields.{domainBytes}
+use Rattle.footer.specs.Answer.{refusedChecked}
+use Rattle.footer.proofs.Fields.{footer-bytes, start-domain, start-tiles}
+use Rattle.footer.proofs.Passed.{Ready, ready, checked-number, checked-refused, footer-passed, footer-refused}
 use Rattle.footer.proofs.open.Statement.{statement}
 use Rattle.footer.proofs.open.Tie as tie
 
@@ -27,159 +23,48 @@ returns c =
     c .refused .ensures
     ∙ rw (e, checked-refused (a .description) (a .file-size) (a .bytes .now) z) (sym (footer-refused (a .description) (a .file-size) (a .bytes .now) z))
 
--- the footer is not refused
-clear : (c : tie.Else1) → (let a = c .before .before .before .before .args in footerRefusal (a .description) (a .file-size) (a .bytes .now) .number ≡ 0)
-clear c =
-    let h = c .before .before in
+whole : (c : tie.Else1)
+    → (let h = c .before .before in
     let a = h .before .before .args in
-    rw (h .check .ensures, checked-number (a .description) (a .file-size) (a .bytes .now)) at (c .if1 .left)
-
-places-of-requires : tie.Need-places-of-requires
-unfolding acceptedChecked
-places-of-requires c κs =
-    let h = c .before .before in
-    let a = h .before .before .args in
-    let k = accepted (a .description) (a .file-size) (a .bytes .now) (clear c) in
-    (rw (h .check .ensures, checked-accepted (a .description) (a .file-size) (a .bytes .now) (clear c)) (k .most-name), k .description .most-fields)
-
--- the places are the definition's
-placed : (c : tie.After-places-of)
-    → (let a = c .before .before .before .before .before .args in
-    Placed (nameSize (a .bytes .now)) (boxBytes (a .description)) (a .description .fields) (c .places-of .result))
-unfolding acceptedChecked
-placed c =
-    let h = c .before .before .before in
-    let a = h .before .before .args in
-    let e = rw (checked-accepted (a .description) (a .file-size) (a .bytes .now) (clear (c .before))) at (h .check .ensures) in
-    named (boxBytes (a .description)) (a .description .fields) (c .places-of .result) (ap (λ x. x .«name_size») e) (c .places-of .ensures)
-
-whole : (c : tie.After-places-of) → (let a = c .before .before .before .before .before .args in Accepted (a .description) (a .file-size) (a .bytes .now))
+    Ready (a .description) (a .file-size) (a .bytes .now) (h .check .result))
 whole c =
-    let a = c .before .before .before .before .before .args in
-    accepted (a .description) (a .file-size) (a .bytes .now) (clear (c .before))
+    let h = c .before .before in
+    let a = h .before .before .args in
+    ready (a .description) (a .file-size) (a .bytes .now) (h .check .result) (h .check .ensures) (c .if1 .left)
 
-list-at-requires : tie.Need-list-at-requires
-unfolding start
-list-at-requires c κs =
-    let o = c .before .before .before .before .before .before in
-    let w = whole o in
-    (omega (arith, placed o .file-sizes, w .all-bytes), w .description .most-fields)
+domain-read : (c : tie.After-read-box)
+    → (let a = c .before .before .before .before .before .before .before .before .args in
+    let d = a .description in
+    c .read-box .result ≡ boxOf (d .kinds) (sidesOf (d .dimensions)) (domainBytes d (a .bytes .now)))
+domain-read c =
+    let b = c .before .before .before in
+    let h = b .before .before .before in
+    let d = h .before .before .args .description in
+    let wide : h .check .result .domain + b .box-bytes .result - h .check .result .domain ≡ boxBytes d = omega (arith, b .box-bytes .ensures) in
+    c .read-box .ensures ∙ rw (wide, whole (b .before) .domain)
 
-list-at-requires-2 : tie.Need-list-at-requires-2
-unfolding start
-list-at-requires-2 c κs =
-    let o = c .before .before .before .before .before .before .before in
-    let w = whole o in
-    (omega (arith, placed o .file-var-sizes, w .all-bytes), w .description .most-fields)
-
-list-at-requires-3 : tie.Need-list-at-requires-3
-unfolding start
-list-at-requires-3 c κs =
-    let o = c .before .before .before .before .before .before .before .before in
-    let w = whole o in
-    (omega (arith, placed o .file-validity-sizes, w .all-bytes), w .description .most-fields)
-
-list-at-requires-4 : tie.Need-list-at-requires-4
-unfolding start
-list-at-requires-4 c κs =
-    let o = c .before .before .before .before .before .before .before .before .before .before in
-    let w = whole o in
-    (omega (arith, placed o .tile-offsets, w .all-bytes), w .description .most-fields)
-
-list-at-requires-5 : tie.Need-list-at-requires-5
-unfolding start
-list-at-requires-5 c κs =
-    let o = c .before .before .before .before .before .before .before .before .before .before .before in
-    let w = whole o in
-    (omega (arith, placed o .var-offsets, w .all-bytes), w .description .most-fields)
-
-list-at-requires-6 : tie.Need-list-at-requires-6
-unfolding start
-list-at-requires-6 c κs =
-    let o = c .before .before .before .before .before .before .before .before .before .before .before .before in
-    let w = whole o in
-    (omega (arith, placed o .var-sizes, w .all-bytes), w .description .most-fields)
-
-list-at-requires-7 : tie.Need-list-at-requires-7
-unfolding start
-list-at-requires-7 c κs =
-    let o = c .before .before .before .before .before .before .before .before .before .before .before .before .before in
-    let w = whole o in
-    (omega (arith, placed o .validity, w .all-bytes), w .description .most-fields)
-
-list-at-requires-8 : tie.Need-list-at-requires-8
-unfolding start
-list-at-requires-8 c κs =
-    let o = c .before .before .before .before .before .before .before .before .before .before .before .before .before .before in
-    let w = whole o in
-    (omega (arith, placed o .mins, w .all-bytes), w .description .most-fields)
-
-list-at-requires-9 : tie.Need-list-at-requires-9
-unfolding start
-list-at-requires-9 c κs =
-    let o = c .before .before .before .before .before .before .before .before .before .before .before .before .before .before .before in
-    let w = whole o in
-    (omega (arith, placed o .maxes, w .all-bytes), w .description .most-fields)
-
-list-at-requires-10 : tie.Need-list-at-requires-10
-unfolding start
-list-at-requires-10 c κs =
-    let o = c .before .before .before .before .before .before .before .before .before .before .before .before .before .before .before .before in
-    let w = whole o in
-    (omega (arith, placed o .sums, w .all-bytes), w .description .most-fields)
-
-list-at-requires-11 : tie.Need-list-at-requires-11
-unfolding start
-list-at-requires-11 c κs =
-    let o = c .before .before .before .before .before .before .before .before .before .before .before .before .before .before .before .before .before in
-    let w = whole o in
-    (omega (arith, placed o .null-counts, w .all-bytes), w .description .most-fields)
+read-requires : tie.Need-read-requires
+read-requires c κs =
+    let b = c .before .before .before in
+    let h = b .before .before .before in
+    let a = h .before .before .args in
+    let d = a .description in
+    let w = whole (b .before) in
+    let q = b .box-bytes .ensures in
+    let p = start-domain d (a .bytes .now) in
+    let t = start-tiles d (a .bytes .now) in (
+      (w .checked, omega (arith, w .domain)),
+      (
+        domain-read c,
+        (omega (arith, w .domain, w .pass .all-bytes, footer-bytes d (a .bytes .now)), w .pass .head .description .most-fields, omega (arith, w .domain)),
+      ),
+    )
 
 returns-2 : tie.Need-returns-2
-unfolding start acceptedChecked acceptedFooter
 returns-2 c =
-    let l8 = c .before .before .before in
-    let l4 = l8 .before .before .before .before .before .before .before in
-    let u1 = l4 .before in
-    let l1 = u1 .before .before .before in
-    let b1 = l1 .before .before .before .before in
-    let o = b1 .before .before .before in
-    let h = o .before .before .before in
-    let a = h .before .before .args in
-    let p = placed o in
-    let s = a .bytes .now in
-    let byte : ℕ → ℕ = λ k. getD s k 0 in
-    let number : ℕ → ℕ = λ k. little s k 8 in
-    let list : ℕ → List ℕ = λ k. entries s (a .description .fields) k in
-    let e = h .check .ensures ∙ checked-accepted (a .description) (a .file-size) s (clear (o .before)) in
-    rw (footer-accepted (a .description) (a .file-size) s (clear (o .before))) (λ i. record {
-      number = 0;
-      place = 0;
-      version = b1 .before .u32-at .ensures i;
-      «name_size» = e i .«name_size»;
-      dense = (b1 .byte-at .ensures ∙ ap byte (p .dense)) i;
-      «null_domain» = (l1 .before .before .before .byte-at2 .ensures ∙ ap byte (p .null-domain)) i;
-      domain = e i .domain;
-      tiles = e i .tiles;
-      «last_cells» = e i .«last_cells»;
-      timestamps = (l1 .before .before .byte-at3 .ensures ∙ ap byte (p .timestamps)) i;
-      deletes = (l1 .before .byte-at4 .ensures ∙ ap byte (p .deletes)) i;
-      «file_sizes» = (l1 .list-at .ensures ∙ ap list (p .file-sizes)) i;
-      «file_var_sizes» = (u1 .before .before .list-at2 .ensures ∙ ap list (p .file-var-sizes)) i;
-      «file_validity_sizes» = (u1 .before .list-at3 .ensures ∙ ap list (p .file-validity-sizes)) i;
-      rtree = (u1 .u64-at .ensures ∙ ap number (p .rtree)) i;
-      «tile_offsets» = (l4 .list-at4 .ensures ∙ ap list (p .tile-offsets)) i;
-      «var_offsets» = (l8 .before .before .before .before .before .before .list-at5 .ensures ∙ ap list (p .var-offsets)) i;
-      «var_sizes» = (l8 .before .before .before .before .before .list-at6 .ensures ∙ ap list (p .var-sizes)) i;
-      validity = (l8 .before .before .before .before .list-at7 .ensures ∙ ap list (p .validity)) i;
-      mins = (l8 .before .before .before .list-at8 .ensures ∙ ap list (p .mins)) i;
-      maxes = (l8 .before .before .list-at9 .ensures ∙ ap list (p .maxes)) i;
-      sums = (l8 .before .list-at10 .ensures ∙ ap list (p .sums)) i;
-      «null_counts» = (l8 .list-at11 .ensures ∙ ap list (p .null-counts)) i;
-      fragment = (c .before .before .u64-at2 .ensures ∙ ap number (p .fragment)) i;
-      conditions = (c .before .u64-at3 .ensures ∙ ap number (p .conditions)) i;
-      length = (c .u64-at4 .ensures ∙ ap number (p .length)) i;
-    })
+    let e = c .before .before .before .before .before in
+    let a = e .before .before .before .before .args in
+    c .read .ensures ∙ sym (footer-passed (a .description) (a .file-size) (a .bytes .now) (whole e .not-refused))
 
 pub open-spec : {M : Type 1} → statement M
 open-spec =
@@ -188,26 +73,11 @@ open-spec =
     (λ c κs. search needs)
     (λ c κs. search needs)
     returns
-    places-of-requires
     (λ c κs. search needs)
+    (λ c. record { fits = omega (arith, whole (c .before) .domain-there, c .box-bytes .ensures) })
     (λ c. search needs)
+    (λ c. search needs)
+    (λ c. omega (arith, whole (c .before .before) .domain-there, c .before .box-bytes .ensures))
     (λ c κs. search needs)
-    (λ c κs. search needs)
-    (λ c κs. search needs)
-    (λ c κs. search needs)
-    list-at-requires
-    list-at-requires-2
-    list-at-requires-3
-    (λ c κs. search needs)
-    list-at-requires-4
-    list-at-requires-5
-    list-at-requires-6
-    list-at-requires-7
-    list-at-requires-8
-    list-at-requires-9
-    list-at-requires-10
-    list-at-requires-11
-    (λ c κs. search needs)
-    (λ c κs. search needs)
-    (λ c κs. search needs)
+    read-requires
     returns-2)

@@ -1,15 +1,11 @@
--- `lists::after` meets its contract: each arm is the definition's case, and a sum that doesn't break the rule fits. Assumes nothing.
-use Prim.Native.Nat.{_+_, _-_, _^_}
+-- `lists::after` meets its contract: each arm is the definition's case, and what goes on fits. Assumes nothing.
 use native.Mathlib.Omega.{arith}
 use borrow.Author.Needs.{needs}
-use borrow.Author.Tests.{ltb-false}
 use Rattle.lists.proofs.after.Statement.{statement}
 use Rattle.lists.proofs.after.Tie as tie
 
 add-result : tie.Need-add-result
-add-result c =
-    let a = c .before .before in
-    omega (arith, ltb-false (2 ^ 64 - 1) (a .args .carried + a .args .x) (rw (c .enum-told2 .given .1) at (a .pre)))
+add-result c = omega (arith, rw (c .enum-told2 .given .1) at (c .before .before .pre))
 
 returns-2 : tie.Need-returns-2
 returns-2 c = rw (c .enum-told2 .given .1)

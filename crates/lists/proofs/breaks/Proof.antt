@@ -1,13 +1,14 @@
--- `lists::breaks` meets its contract: each arm is the definition's case, the two tests of an offset in the other order. For sizes, the
--- test comes before the addition: what is left of 2^64 - 1 is below the entry exactly where the sum with it is above 2^64 - 1.
+-- `lists::breaks` meets its contract: each arm is the definition's case, the tests of an offset in another order. For
+-- sizes, the test comes before the addition: what is left of 2^64 - 1 is below the entry exactly where the sum with it
+-- is above 2^64 - 1.
 -- Assumes nothing.
 use mathlib.Core.Path.{sym}
-use mathlib.Core.Bool.{or-true, or-false}
-use lib.Dec.{leb}
+use mathlib.Core.Bool.{not, or-true, or-false}
+use lib.Dec.{leb, eqb}
 use Prim.Native.Nat.{_-_, _^_}
 use native.Mathlib.Omega.{arith}
 use borrow.Author.Needs.{needs}
-use borrow.Author.Tests.{le-leb, lt-leb}
+use borrow.Author.Tests.{le-leb, lt-leb, eq-eqb, ne-eqb}
 use Rattle.lists.proofs.Entries.{room}
 use Rattle.lists.proofs.breaks.Statement.{statement}
 use Rattle.lists.proofs.breaks.Tie as tie
@@ -16,17 +17,23 @@ returns : tie.Need-returns
 returns c =
     let a = c .before .before .before .before .args in
     let rule = c .before .before .rule .given in
-    rw (rule .1, le-leb (rule .0 .0) (a .x) (omega arith)) (sym (or-true (leb (a .x) (a .carried))))
+    rw (rule .1, le-leb (rule .0 .0) (a .x) (omega arith), or-true)
 
 returns-2 : tie.Need-returns-2
 returns-2 c =
-    let a = c .before .before .before .before .args in
-    let rule = c .before .before .rule .given in
-    rw (rule .1, lt-leb (rule .0 .0) (a .x) (omega arith)) (sym (or-false (leb (a .x) (a .carried))))
+    let a = c .before .before .before .before .before .args in
+    let rule = c .before .before .before .rule .given in
+    rw (rule .1, lt-leb (rule .0 .0) (a .x) (omega arith), eq-eqb (a .at) 8 (omega arith)) (sym (or-false (not (eqb (a .x) 0))))
 
 returns-3 : tie.Need-returns-3
-returns-3 c = rw (c .enum-told .given .1) (room (2 ^ 64 - 1) (c .before .before .args .carried) (c .before .before .args .x) (omega arith))
+returns-3 c =
+    let a = c .before .before .before .before .before .args in
+    let rule = c .before .before .before .rule .given in
+    rw (rule .1, lt-leb (rule .0 .0) (a .x) (omega arith), ne-eqb (a .at) 8 (λ e. omega arith)) (sym (or-false (leb (a .x) (a .carried))))
+
+returns-4 : tie.Need-returns-4
+returns-4 c = rw (c .enum-told .given .1) (room (2 ^ 64 - 1) (c .before .before .args .carried) (c .before .before .args .x) (omega arith))
 
 pub breaks-spec : {M : Type 1} → statement M
 breaks-spec =
-    tie.close (tie.spec (λ c. search needs) (λ c. search needs) (λ c. search needs) returns returns-2 returns-3)
+    tie.close (tie.spec (λ c. search needs) (λ c. search needs) (λ c. search needs) returns returns-2 returns-3 returns-4)

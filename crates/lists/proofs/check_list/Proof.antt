@@ -1,41 +1,28 @@
--- `lists::check_list` meets its contract: it goes through the definition's checks in their order. A width is below 2^32 and n at most
--- the most tiles, so that their product fits. Assumes nothing.
+-- `lists::check_list` meets its contract: the definition's checks in their order, the first before the others. A width
+-- is below 2^32 and n at most the most tiles, so that their product fits. Assumes nothing.
 use mathlib.Core.Path.{_≡_, sym, _∙_}
-use mathlib.Core.Bool.{false}
+use mathlib.Core.Bool.{false, not}
 use Prim.Native.Nat.{ℕ, _+_, _*_, _^_, _≤_, _<_}
 use native.Mathlib.Nat.{mul-le-mul}
 use native.Mathlib.Omega.{arith}
-use lib.Dec.{ltb}
+use lib.Dec.{ltb, eqb}
 use mir.Syntax.{w32}
 use mir.Val.{Fits}
 use borrow.Author.Needs.{needs}
 use borrow.Author.Tests.{ltb-false}
-use Rattle.boxes.specs.Limits.{leastTiles, mostTiles, outside}
-use Rattle.lists.proofs.Header.{neither, tiles-decide, few-decide, count-decides, total-decides, nothing-decides}
+use Rattle.answers.specs.Refusals.{count}
+use Rattle.answers.specs.Checks.{check}
+use Rattle.answers.proofs.Checks.{stop-check, join-next}
+use Rattle.order.specs.Little.{little}
+use Rattle.description.specs.Limits.{leastTiles, mostTiles, outside}
+use Rattle.lists.specs.Lists.{listRefusal}
+use Rattle.lists.proofs.Header.{neither, others-joined}
 use Rattle.lists.proofs.check_list.Statement.{statement}
 use Rattle.lists.proofs.check_list.Tie as tie
 
 returns : tie.Need-returns
-returns c =
-    let o = c .before .before in
-    let a = o .before .before .args in
-    c .new .ensures ∙ sym (tiles-decide (a .tiles) (a .width) (a .body .now) (sym (o .outside .ensures) ∙ c .before .if1 .taken))
-
-returns-2 : tie.Need-returns-2
-returns-2 c =
-    let t = c .before .before in
-    let o = t .before in
-    let a = o .before .before .args in
-    let inside = sym (o .outside .ensures) ∙ t .if1 .left in
-    c .new2 .ensures ∙ sym (few-decide (a .tiles) (a .width) (a .body .now) inside (omega arith))
-
-returns-3 : tie.Need-returns-3
-returns-3 c =
-    let t = c .before .before .before .before in
-    let o = t .before in
-    let a = o .before .before .args in
-    let inside = sym (o .outside .ensures) ∙ t .if1 .left in
-    c .new3 .ensures ∙ sym (count-decides (a .tiles) (a .width) (a .body .now) inside (omega arith) (λ e. omega arith))
+unfolding listRefusal
+returns c = c .new .ensures ∙ sym (stop-check _ _ _ _ (sym (c .before .before .outside .ensures) ∙ c .before .if1 .taken) (omega arith))
 
 fits : (width n : ℕ) → Fits w32 width → outside leastTiles mostTiles n ≡ false → 8 + width * n < 2 ^ 64
 fits width n h e =
@@ -46,32 +33,24 @@ fits width n h e =
 mul-total : tie.Need-mul-total
 mul-total c =
     let a = c .before .before .before in
-    let at = a .before .before .before in
-    omega (arith, fits (at .args .width) (at .args .tiles) (at .fits .width) (sym (a .before .outside .ensures) ∙ a .if1 .left))
+    omega (arith, fits (a .args .width) (a .args .tiles) (a .fits .width) (sym (c .before .outside .ensures) ∙ c .if1 .left))
 
 add-total : tie.Need-add-total
 add-total c =
     let a = c .before .before .before in
-    let at = a .before .before .before in
-    omega (arith, fits (at .args .width) (at .args .tiles) (at .fits .width) (sym (a .before .outside .ensures) ∙ a .if1 .left))
+    omega (arith, fits (a .args .width) (a .args .tiles) (a .fits .width) (sym (c .before .outside .ensures) ∙ c .if1 .left))
 
-returns-4 : tie.Need-returns-4
-returns-4 c =
-    let t = c .before .before .before .before .before in
-    let o = t .before in
-    let a = o .before .before .args in
-    let inside = sym (o .outside .ensures) ∙ t .if1 .left in
-    c .new4 .ensures
-    ∙ sym (total-decides (a .tiles) (a .width) (a .body .now) inside (omega arith) (omega arith) (λ e. omega arith))
-
-returns-5 : tie.Need-returns-5
-returns-5 c =
-    let t = c .before .before .before .before .before in
-    let o = t .before in
-    let a = o .before .before .args in
-    let inside = sym (o .outside .ensures) ∙ t .if1 .left in
-    c .none .ensures
-    ∙ sym (nothing-decides (a .tiles) (a .width) (a .body .now) inside (omega arith) (omega arith) (omega arith))
+returns-2 : tie.Need-returns-2
+returns-2 c =
+    let bytes = c .before .before in
+    let few = bytes .before .before in
+    let read = few .before in
+    let inside = sym (read .before .before .outside .ensures) ∙ read .before .if1 .left in
+    let a = read .before .before .before .before .args in
+    let differs : bytes .before .when2 .result ≡ check (not (eqb (little (a .body .now) 0 8) (a .tiles))) count 0
+    = rw (read .u64-at .ensures) at (bytes .before .when2 .ensures) in
+    join-next (c .or2 .ensures) (join-next (c .before .or .ensures) (few .when .ensures) differs) (bytes .when3 .ensures)
+    ∙ others-joined (a .tiles) (a .width) (a .body .now) inside
 
 pub check-list-spec : {M : Type 1} → statement M
 check-list-spec =
@@ -80,14 +59,12 @@ check-list-spec =
     (λ c κs. search needs)
     (λ c κs. search needs)
     returns
-    (λ c κs. search needs)
-    returns-2
-    (λ c κs. search needs)
-    (λ c κs. search needs)
-    returns-3
     mul-total
     add-total
     (λ c κs. search needs)
-    returns-4
     (λ c κs. search needs)
-    returns-5)
+    (λ c κs. search needs)
+    (λ c κs. search needs)
+    (λ c κs. search needs)
+    (λ c κs. search needs)
+    returns-2)

@@ -1,4 +1,5 @@
--- `lists::entry` meets its contract: past the last whole word of the bytes an entry starts past their end. Assumes nothing.
+-- `lists::entry` meets its contract: past the last whole word of the bytes an entry starts past their end. Assumes
+-- nothing.
 use mathlib.Core.Path.{sym}
 use Prim.Native.Nat.{_+_, _*_}
 use native.Mathlib.Omega.{arith}

@@ -1,73 +1,67 @@
--- `lists::scan` meets its contract. The invariant: the place is where some entry i starts, what is carried is what the definition carries
--- to entry i, and no entry so far has broken the rule, so that the check of the entries from i on decides. The measure is the number of
--- bytes left. Assumes nothing.
+-- `lists::scan` meets its contract. The invariant: the place is where some entry i starts, what is carried is what the
+-- definition carries to entry i, and no entry so far has broken the rule, so that the check of the entries from i on
+-- decides. The measure is the number of bytes left. Assumes nothing.
 use mathlib.Core.Path.{_≡_, refl, sym, ap, _∙_}
-use mathlib.Core.Bool.{true, false}
+use mathlib.Core.Bool.{Bool, true, false}
 use mathlib.Core.List.{List}
-use Prim.Native.Nat.{ℕ, _+_, _-_, _*_, _^_, _≤_, _<_}
+use Prim.Native.Nat.{ℕ, _+_, _-_, _*_, _≤_, _<_}
 use native.Mathlib.Omega.{arith}
 use borrow.Author.Needs.{needs}
 use borrow.Author.Tests.{ne-eqb}
 use Rattle.answers.specs.Refusals.{refusal}
-use Rattle.answers.specs.Checks.{each}
-use Rattle.answers.proofs.Checks.{none-left}
+use Rattle.answers.specs.Checks.{check, each}
+use Rattle.answers.specs.declared.Refusal.{Refusal}
+use Rattle.answers.proofs.Runs.{over-start}
+use Rattle.answers.proofs.Checks.{none-left, past-left, stop-left}
 use Rattle.order.specs.Little.{little}
 use Rattle.lists.specs.declared.Rule.{Rule}
+use Rattle.lists.specs.declared.Scanned.the-variants.{Whole, Bad}
 use Rattle.lists.specs.Lists.{entry}
-use Rattle.lists.specs.Rules.{ruleNumber, carried, breaks, after, entryCheck}
-use Rattle.lists.proofs.Entries.{each-past, each-stop, number-some, carried-next}
+use Rattle.lists.specs.Code.Rules.{ruleBreaks, ruleNumber, carried, breaks, outcome, loopAnswer}
+use Rattle.lists.proofs.Entries.{number-some, test-is, carried-none, carried-next, after-fits}
 use Rattle.lists.proofs.scan.Statement.{statement}
 use Rattle.lists.proofs.scan.Tie as tie
 
-record Reached (rule : Rule) (s : List ℕ) (from n at now : ℕ) : Type 0 where
+abbrev checked : Rule → (ℕ → ℕ) → ℕ → Refusal
+checked rule g i = check (ruleBreaks rule g i) (ruleNumber rule) (8 + 8 * i)
+
+record Reached (rule : Rule) (s : List ℕ) (n at now : ℕ) : Type 0 where
   i : ℕ
-  starts : at ≡ 8 + 8 * i
   within : i ≤ n
-  fits : now < 2 ^ 64
+  starts : at ≡ 8 + 8 * i
   carries : now ≡ carried rule (entry s) i
-  left : each (entryCheck rule (entry s)) from (n - from) ≡ each (entryCheck rule (entry s)) i (n - i)
+  decides : each (checked rule (entry s)) 0 n ≡ each (checked rule (entry s)) i (n - i)
 
 abbrev Inv-loop : tie.InvT-loop
-Inv-loop body from n rule start end at₀ carried₀ at now = Reached rule body from n at now
+Inv-loop body n rule end at₀ carried₀ at now = Reached rule body n at now
 
 abbrev μ-loop : tie.MeasureT-loop
-μ-loop body from n rule start end at₀ carried₀ at now = end - at
+μ-loop body n rule end at₀ carried₀ at now = end - at
 
--- one turn, with the entry x that the code reads at the place that it has reached
-module _ {rule : Rule} {s : List ℕ} {from n at now : ℕ} (r : Reached rule s from n at now) (more : at < 8 + 8 * n)
-    {x : ℕ} (read : x ≡ little s at 8) where
+-- ---- the entry x that the code reads at the place that it has reached
+module _ {rule : Rule} {s : List ℕ} {n at now : ℕ} (r : Reached rule s n at now) {x : ℕ} (read : x ≡ little s at 8) where
   entry-is : x ≡ entry s (r .i)
   entry-is = read ∙ ap (λ (k : ℕ). little s k 8) (r .starts)
 
-  test-is : breaks rule (carried rule (entry s) (r .i)) (entry s (r .i)) ≡ breaks rule now x
-  test-is = rw (← entry-is, ← r .carries)
+  tested : {b : Bool} → b ≡ breaks rule at now x → ruleBreaks rule (entry s) (r .i) ≡ b
+  tested e = test-is rule (entry s) (r .i) ∙ rw (← r .carries, ← r .starts, ← read) (sym e)
 
-  passed : {next : ℕ} → breaks rule now x ≡ false → next ≡ after rule now x → next < 2 ^ 64 → Reached rule s from n (at + 8) next
-  passed {next} e next-is small =
-      let some : r .i < n = omega arith in
-      let q : n - r .i - 1 ≡ n - (r .i + 1) = omega arith in
-      record {
-        i = r .i + 1;
-        starts = omega arith;
-        within = omega arith;
-        fits = small;
-        carries = next-is ∙ rw (entry-is, r .carries) (sym (carried-next rule (entry s) (r .i)));
-        left =
-            r .left
-            ∙ each-past (λ k. breaks rule (carried rule (entry s) k) (entry s k)) (ruleNumber rule) (λ k. 8 + 8 * k) (r .i) (n - r .i)
-            (omega arith) (test-is ∙ e)
-            ∙ ap (each (entryCheck rule (entry s)) (r .i + 1)) q;
-      }
+-- ---- how the loop goes on, and how it ends
+module _ {rule : Rule} {s : List ℕ} {n at now : ℕ} (r : Reached rule s n at now) where
+  kept : r .i < n → ruleBreaks rule (entry s) (r .i) ≡ false
+      → each (checked rule (entry s)) 0 n ≡ each (checked rule (entry s)) (r .i + 1) (n - (r .i + 1))
+  kept some e = r .decides ∙ past-left _ (r .i) n (checked rule (entry s) (r .i)) some refl (rw e)
 
-  stopped : breaks rule now x ≡ true → refusal (ruleNumber rule) at ≡ each (entryCheck rule (entry s)) from (n - from)
-  stopped e =
-      let some : r .i < n = omega arith in
-      ap (refusal (ruleNumber rule)) (r .starts)
-      ∙ sym (
-      r .left
-      ∙ each-stop (λ k. breaks rule (carried rule (entry s) k) (entry s k)) (ruleNumber rule) (λ k. 8 + 8 * k) (r .i) (n - r .i)
-      (omega arith) (number-some rule) (test-is ∙ e)
-      )
+  all-kept : 8 + 8 * n ≤ at → outcome rule (Whole now) ≡ loopAnswer rule (entry s) n
+  all-kept done =
+      let e : r .i ≡ n = omega arith in
+      rw (r .decides ∙ none-left _ (r .i) (n - r .i) (omega arith), r .carries, e)
+
+  broken : r .i < n → ruleBreaks rule (entry s) (r .i) ≡ true → outcome rule (Bad at) ≡ loopAnswer rule (entry s) n
+  broken some e =
+      let number : ruleNumber rule ≡ 0 → ⊥ = λ z. omega (arith, number-some rule) in
+      let one : checked rule (entry s) (r .i) ≡ refusal (ruleNumber rule) (8 + 8 * r .i) = rw e in
+      rw (r .decides ∙ stop-left _ (r .i) n _ some (sym one) number, r .starts, ne-eqb (ruleNumber rule) 0 number)
 
 mul-end : tie.Need-mul-end Inv-loop μ-loop
 mul-end c = omega arith
@@ -75,30 +69,25 @@ mul-end c = omega arith
 add-end : tie.Need-add-end Inv-loop μ-loop
 add-end c = omega arith
 
-mul-at : tie.Need-mul-at Inv-loop μ-loop
-mul-at c = omega arith
-
-add-at : tie.Need-add-at Inv-loop μ-loop
-add-at c = omega arith
-
 loop-holds : tie.Need-loop-holds Inv-loop μ-loop
 loop-holds c = record {
-  i = c .before .args .from;
-  starts = refl;
+  i = 0;
   within = omega arith;
-  fits = omega arith;
-  carries = c .before .pre .1;
-  left = refl;
+  starts = refl;
+  carries = carried-none (c .before .args .rule) _;
+  decides = over-start _ _ _ _;
 }
 
 word-requires : tie.Need-word-requires Inv-loop μ-loop
 word-requires c κs = omega arith
 
 after-requires : tie.Need-after-requires Inv-loop μ-loop
-after-requires c κs = sym (c .before .breaks .ensures) ∙ c .if2 .left
+after-requires c κs =
+    after-fits (c .before .before .before .before .before .before .args .rule) _ _ _ (omega arith)
+    (sym (c .before .breaks .ensures) ∙ c .if2 .left)
 
-add-at-2 : tie.Need-add-at-2 Inv-loop μ-loop
-add-at-2 c = omega arith
+add-at : tie.Need-add-at Inv-loop μ-loop
+add-at c = omega arith
 
 loop-less : tie.Need-loop-less Inv-loop μ-loop
 loop-less c = omega arith
@@ -107,30 +96,24 @@ loop-again : tie.Need-loop-again Inv-loop μ-loop
 loop-again c =
     let w = c .before .before .before in
     let r = w .before .before .loop .inv in
-    passed r (omega arith) (w .word .ensures) (sym (c .before .before .breaks .ensures) ∙ c .before .if2 .left) (c .after .ensures)
-    (omega arith)
+    let a = w .before .before .before .before .args in
+    let read = w .word .ensures in
+    record {
+      i = r .i + 1;
+      within = omega arith;
+      starts = omega arith;
+      carries = c .after .ensures ∙ rw (entry-is r read, r .carries) (sym (carried-next (a .rule) _ (r .i)));
+      decides = kept r (omega arith) (tested r read (c .before .before .breaks .ensures) ∙ c .before .if2 .left);
+    }
 
 returns : tie.Need-returns Inv-loop μ-loop
-returns c =
-    let r = c .before .loop .inv in
-    let a = c .before .before .before .args in
-    let e : r .i ≡ a .n = omega arith in
-    record {
-      refused = sym (r .left ∙ none-left _ (r .i) (a .n - r .i) (omega arith));
-      value = r .carries ∙ ap (carried (a .rule) _) e;
-    }
+returns c = all-kept (c .before .loop .inv) (c .if1 .taken)
 
 returns-2 : tie.Need-returns-2 Inv-loop μ-loop
 returns-2 c =
     let w = c .before .before in
     let r = w .before .before .loop .inv in
-    let rule = w .before .before .before .before .args .rule in
-    record {
-      refused =
-          stopped r (omega arith) (w .word .ensures)
-          (sym (c .before .breaks .ensures) ∙ c .if2 .taken);
-      value = rw (ne-eqb (ruleNumber rule) 0 (λ z. omega (arith, number-some rule)));
-    }
+    broken r (omega arith) (tested r (w .word .ensures) (c .before .breaks .ensures) ∙ c .if2 .taken)
 
 pub scan-spec : {M : Type 1} → statement M
 scan-spec =
@@ -140,13 +123,11 @@ scan-spec =
     μ-loop
     mul-end
     add-end
-    mul-at
-    add-at
     loop-holds
     word-requires
     (λ c κs. search needs)
     after-requires
-    add-at-2
+    add-at
     loop-less
     loop-again
     returns

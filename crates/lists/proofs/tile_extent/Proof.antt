@@ -1,20 +1,20 @@
--- `lists::tile_extent` meets its contract: the check's refusal decides between 0 and 0 and what `extent_at` answers. Assumes nothing.
-use mathlib.Core.Path.{_∙_}
-use native.Mathlib.Omega.{arith}
+-- `lists::tile_extent` meets its contract: what `extent_at` answers for as many tiles as the check does. Assumes nothing.
+use mathlib.Core.Path.{_≡_, ap, _∙_}
 use borrow.Author.Needs.{needs}
-use borrow.Author.Tests.{eq-eqb, ne-eqb}
+use Rattle.lists.specs.declared.TileOffsets.{TileOffsets}
+use Rattle.lists.specs.Offsets.{extentAt}
+use Rattle.lists.proofs.Extents.{asked}
 use Rattle.lists.proofs.tile_extent.Statement.{statement}
 use Rattle.lists.proofs.tile_extent.Tie as tie
 
 returns : tie.Need-returns
 returns c =
-    let r = c .before .check-offsets in
-    rw (← r .ensures, ne-eqb (r .result .number) 0 (λ e. omega arith))
-
-returns-2 : tie.Need-returns-2
-returns-2 c =
-    let r = c .before .before .check-offsets in
-    c .extent-at .ensures ∙ rw (← r .ensures, eq-eqb (r .result .number) 0 (omega arith))
+    let a = c .before .before .before .args in
+    let list = c .before .open-offsets in
+    let e : c .extent-at .result ≡ extentAt (list .result .tiles) (a .size) (a .body .now) (a .i) = c .extent-at .ensures in
+    e
+    ∙ ap (λ (r : TileOffsets). extentAt (r .tiles) (a .size) (a .body .now) (a .i)) (list .ensures .0)
+    ∙ asked (a .tiles) (a .size) (a .body .now) (a .i)
 
 pub tile-extent-spec : {M : Type 1} → statement M
-tile-extent-spec = tie.close (tie.spec (λ c κs. search needs) returns (λ c κs. search needs) returns-2)
+tile-extent-spec = tie.close (tie.spec (λ c κs. search needs) (λ c κs. search needs) returns)

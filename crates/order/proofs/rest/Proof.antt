@@ -1,5 +1,5 @@
--- `order::rest` meets its contract. The loop goes from the last byte back to the place: what is made so far is the number of the bytes from i on, as
--- many as are left of eight. Assumes nothing.
+-- `order::rest` meets its contract. The loop goes from the last byte back to the place: what is made so far is the
+-- number of the bytes from i on, as many as are left of eight. Assumes nothing.
 use Prim.Native.Nat.{ℕ, suc, _+_, _-_, _*_, _^_, _≤_, _<_}
 use mathlib.Core.Path.{_≡_, sym, _∙_}
 use mathlib.Core.List.{List}

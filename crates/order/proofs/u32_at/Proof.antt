@@ -6,21 +6,12 @@ use Rattle.order.proofs.Little.{four-fit, little-past, little-ends}
 use Rattle.order.proofs.u32_at.Statement.{statement}
 use Rattle.order.proofs.u32_at.Tie as tie
 
-four-requires : tie.Need-four-requires
-four-requires c κs = search needs
-
-rest-requires : tie.Need-rest-requires
-rest-requires c κs = search needs
-
 cast-result : tie.Need-cast-result
 cast-result c =
     let known = c .before .before .before in
     let s = known .before .args .s .now in
     let at = known .before .args .at in
     rw (c .rest .ensures, little-ends s at 4 4 (omega arith)) (four-fit s (known .shared-slice-known .given) at)
-
-returns : tie.Need-returns
-returns c = search needs
 
 returns-2 : tie.Need-returns-2
 returns-2 c =
@@ -33,4 +24,4 @@ returns-3 c =
     sym (little-past (a .s .now) (a .at) 4 (omega arith))
 
 pub u32-at-spec : {M : Type 1} → statement M
-u32-at-spec = tie.close (tie.spec four-requires rest-requires cast-result returns returns-2 returns-3)
+u32-at-spec = tie.close (tie.spec (λ c κs. search needs) (λ c κs. search needs) cast-result (λ c. search needs) returns-2 returns-3)

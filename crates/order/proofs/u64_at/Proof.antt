@@ -6,22 +6,11 @@ use Rattle.order.proofs.Little.{little-past}
 use Rattle.order.proofs.u64_at.Statement.{statement}
 use Rattle.order.proofs.u64_at.Tie as tie
 
-eight-requires : tie.Need-eight-requires
-eight-requires c κs = search needs
-
-rest-requires : tie.Need-rest-requires
-rest-requires c κs = search needs
-
-returns : tie.Need-returns
-returns c = search needs
-
-returns-2 : tie.Need-returns-2
-returns-2 c = search needs
-
 returns-3 : tie.Need-returns-3
 returns-3 c =
     let a = c .before .before .args in
     sym (little-past (a .s .now) (a .at) 8 (omega arith))
 
 pub u64-at-spec : {M : Type 1} → statement M
-u64-at-spec = tie.close (tie.spec eight-requires rest-requires returns returns-2 returns-3)
+u64-at-spec =
+    tie.close (tie.spec (λ c κs. search needs) (λ c κs. search needs) (λ c. search needs) (λ c. search needs) returns-3)

@@ -1,19 +1,20 @@
 -- `report_text::write_header` meets its contract: piece by piece. Assumes nothing.
-use Rattle.report_text.proofs.Writing.{wrote-append}
 use native.Mathlib.Omega.{arith}
-use Rattle.report_text.specs.Text.{headerText}
 use borrow.Author.Needs.{needs}
+use Rattle.report_text.specs.Text.{headerText}
+use Rattle.report_text.proofs.Writing.{wrote-append}
 use Rattle.report_text.proofs.write_header.Statement.{statement}
 use Rattle.report_text.proofs.write_header.Tie as tie
 
 returns : tie.Need-returns
 unfolding headerText
-returns c = (
-  wrote-append
-      (wrote-append (wrote-append (c .before .before .before .before .before .before .before .before .before .before .before .before .before .before .before .before .before .write-piece .ensures .0) (c .before .before .before .before .before .before .before .before .before .before .before .before .write-piece2 .ensures .0)) (c .before .before .before .before .before .before .before .write-piece3 .ensures .0))
-      (c .before .before .write-word .ensures .0),
-  omega (arith, c .before .before .before .before .before .before .before .before .before .before .before .before .before .before .before .before .before .write-piece .ensures .1, c .before .before .before .before .before .before .before .before .before .before .before .before .write-piece2 .ensures .1, c .before .before .before .before .before .before .before .write-piece3 .ensures .1, c .before .before .write-word .ensures .1),
-)
+returns c =
+    let third = c .before .before in
+    let second = third .before .before .before .before .before in
+    let a = second .before .before .before .before .before .write-piece .ensures in
+    let b = second .write-piece2 .ensures in
+    let d = third .write-piece3 .ensures in
+    (wrote-append (wrote-append (a .0) (b .0)) (d .0), omega (arith, a .1, b .1, d .1))
 
 pub write-header-spec : {M : Type 1} → statement M
 write-header-spec =
@@ -22,10 +23,8 @@ write-header-spec =
     (λ c. search needs)
     (λ c κs. search needs)
     (λ c. search needs)
-    (λ c κs. omega (arith, c .before .before .before .before .write-piece .ensures .1))
+    (λ c κs. search needs)
     (λ c. search needs)
-    (λ c κs. omega (arith, c .before .before .before .before .write-piece2 .ensures .1, c .before .before .before .before .before .before .before .before .before .write-piece .ensures .1))
-    (λ c. search needs)
-    (λ c κs. omega (arith, c .before .before .before .before .write-piece3 .ensures .1, c .before .before .before .before .before .before .before .before .before .write-piece2 .ensures .1, c .before .before .before .before .before .before .before .before .before .before .before .before .before .before .write-piece .ensures .1))
+    (λ c κs. search needs)
     (λ c. search needs)
     returns)

@@ -1,28 +1,28 @@
 -- `report_text::write_listing` meets its contract. The invariant: the header and the lines of the first i tiles are written. Assumes nothing.
-use Prim.Native.Nat.{ℕ, _+_, _-_, _*_, _≤_}
-use mathlib.Core.Path.{_≡_, sym, _∙_}
+use Prim.Native.Nat.{_+_, _-_, _*_, _≤_}
+use mathlib.Core.Path.{_≡_, _∙_}
 use native.Mathlib.Omega.{arith}
 use lib.ListN.{getD}
-use Rattle.report_text.specs.Text.{tilesText}
-use Rattle.report_text.specs.Wrote.{Wrote}
+use Rattle.report_text.specs.Text.{tileText, tilesText}
+use Rattle.report_text.specs.Code.Writing.{Wrote}
 use Rattle.report_text.proofs.Writing.{wrote-append, wrote-nothing, tiles-none, tiles-more}
 use borrow.Author.Needs.{needs}
 use Rattle.report_text.proofs.write_listing.Statement.{statement}
 use Rattle.report_text.proofs.write_listing.Tie as tie
 
 abbrev Inv-loop : tie.InvT-loop
-Inv-loop told offsets tiles out₀ found at₀ i₀ out at i =
+Inv-loop outcome offsets tiles out₀ found at₀ i₀ out at i =
     (i ≤ found)
     × (at ≤ 100 * (i + 1))
-    × (Wrote out₀ at₀ (tilesText (told .tiles) (told .«last_cells») (told .capacity) (told .«data_size») offsets tiles i) out at)
+    × (Wrote out₀ at₀ (tilesText (outcome .tiles) (outcome .«last_cells») (outcome .capacity) (outcome .«data_size») offsets tiles i) out at)
 
 abbrev μ-loop : tie.MeasureT-loop
-μ-loop told offsets tiles out₀ found at₀ i₀ out at i = found - i
+μ-loop outcome offsets tiles out₀ found at₀ i₀ out at i = found - i
 
 loop-holds : tie.Need-loop-holds Inv-loop μ-loop
 loop-holds c =
     let x = c .before .before .before .before .before .before .before .args in
-    let t = x .told in (
+    let t = x .outcome in (
       omega arith,
       c .before .before .write-header .ensures .1,
       rw (tiles-none (t .tiles) (t .«last_cells») (t .capacity) (t .«data_size») (x .offsets .now) (x .tiles .now)) (wrote-nothing _ _),
@@ -33,17 +33,17 @@ loop-again c =
     let w = c .before .before .write-tile .ensures in
     let l = c .before .before .before .before .before .before in
     let x = l .before .before .before .before .before .before .before .before .args in
-    let t = x .told in (
+    let t = x .outcome in (
       omega (arith, c .before .before .before .before .before .loop-test),
       omega (arith, w .1, l .loop .inv .1),
       rw (tiles-more (t .tiles) (t .«last_cells») (t .capacity) (t .«data_size») (x .offsets .now) (x .tiles .now) (l .loop .i))
-          (wrote-append (l .loop .inv .2) (w .0)),
+          (wrote-append {ys = tileText (t .tiles) (t .«last_cells») (t .capacity) (t .«data_size») (x .offsets .now) (getD (x .tiles .now) (l .loop .i) 0)} (l .loop .inv .2) (w .0)),
     )
 
 returns : tie.Need-returns Inv-loop μ-loop
 returns c =
     let l = c .before in
-    let e : l .loop .i ≡ l .before .before .before .before .before .before .before .before .args .told .found = omega arith in
+    let e : l .loop .i ≡ l .before .before .before .before .before .before .before .before .args .outcome .found = omega arith in
     wrote-append (l .before .before .before .write-header .ensures .0) (rw e at (l .loop .inv .2))
 
 same-length : tie.Need-same-length Inv-loop μ-loop

@@ -1,21 +1,15 @@
 -- `report_text::write_piece` meets its contract: the word, and then the number. Assumes nothing.
-use Rattle.report_text.proofs.Writing.{wrote-append}
 use native.Mathlib.Omega.{arith}
 use borrow.Author.Needs.{needs}
+use Rattle.report_text.proofs.Writing.{wrote-append}
 use Rattle.report_text.proofs.write_piece.Statement.{statement}
 use Rattle.report_text.proofs.write_piece.Tie as tie
 
 returns : tie.Need-returns
 returns c =
     let w = c .before .before .before .before .before .before .write-word .ensures in
-    let n = c .before .before .write-number .ensures in
+    let n = c .before .before .write-field .ensures in
     (wrote-append (w .0) (n .0), omega (arith, w .1, n .1))
 
 pub write-piece-spec : {M : Type 1} → statement M
-write-piece-spec =
-    tie.close
-    (tie.spec
-    (λ c κs. search needs)
-    (λ c κs. search needs)
-    (λ c. search needs)
-    returns)
+write-piece-spec = tie.close (tie.spec (λ c κs. search needs) (λ c κs. search needs) (λ c. search needs) returns)

@@ -1,15 +1,15 @@
 -- `report_text::write_refused` meets its contract: piece by piece. Assumes nothing.
-use Rattle.report_text.proofs.Writing.{wrote-append}
-use native.Mathlib.Omega.{arith}
-use Rattle.report_text.specs.Text.{refusedText}
 use borrow.Author.Needs.{needs}
+use Rattle.report_text.specs.Text.{refusedText}
+use Rattle.report_text.proofs.Writing.{wrote-append}
 use Rattle.report_text.proofs.write_refused.Statement.{statement}
 use Rattle.report_text.proofs.write_refused.Tie as tie
 
 returns : tie.Need-returns
 unfolding refusedText
 returns c =
-    wrote-append (wrote-append (c .before .before .before .before .before .before .before .before .before .before .before .before .write-piece .ensures .0) (c .before .before .before .before .before .before .before .write-piece2 .ensures .0)) (c .before .before .write-word .ensures .0)
+    let f = c .before .before in
+    wrote-append (f .before .before .before .before .write-piece .ensures .0) (f .write-field .ensures .0)
 
 pub write-refused-spec : {M : Type 1} → statement M
 write-refused-spec =
@@ -17,9 +17,6 @@ write-refused-spec =
     (tie.spec
     (λ c. search needs)
     (λ c κs. search needs)
-    (λ c. search needs)
-    (λ c κs. omega (arith, c .before .before .before .before .write-piece .ensures .1))
-    (λ c. search needs)
-    (λ c κs. omega (arith, c .before .before .before .before .write-piece2 .ensures .1, c .before .before .before .before .before .before .before .before .before .write-piece .ensures .1))
+    (λ c κs. search needs)
     (λ c. search needs)
     returns)

@@ -1,29 +1,56 @@
--- `rtree::check_counts` meets its contract. The invariant is `Down`: what the levels from here down say is what all of them say, and the place
--- is that of the next level's count. The measure is the number of levels that are left.
+-- `rtree::check_counts` meets its contract. The invariant: what the levels from here down say is what all of them say.
+-- The measure is the number of levels that are left.
 -- Assumes nothing.
-use Prim.Native.Nat.{_+_, _-_, _*_, _≤_, _<_}
-use mathlib.Core.Path.{refl, _∙_}
+use Prim.Native.Nat.{_-_, _*_, _≤_}
+use mathlib.Core.Path.{_≡_, sym, _∙_}
 use native.Mathlib.Omega.{arith}
-use lib.ListN.{length, getD}
 use borrow.Author.Needs.{needs}
-use Rattle.rtree.proofs.Levels.{Down, down-start, down-done, down-near, down-fits, down-stop, down-on}
+use Rattle.answers.specs.Refusals.{none}
+use Rattle.answers.specs.Checks.{otherwise, each}
+use Rattle.answers.proofs.Runs.{over-start}
+use Rattle.answers.proofs.Checks.{none-left, past-left, stop-left}
+use Rattle.rtree.specs.Code.Shaped.{tableCountRefusal, tableRefusal}
 use Rattle.rtree.proofs.check_counts.Statement.{statement}
 use Rattle.rtree.proofs.check_counts.Tie as tie
 
 abbrev Inv-loop : tie.InvT-loop
-Inv-loop body counts tiles width number place₀ left₀ place left = Down body counts tiles width number place left
+Inv-loop body table levels i₀ i =
+    (i ≤ levels)
+    × (each (λ i. tableCountRefusal body table (levels - 1 - i)) i (levels - i) ≡ tableRefusal body table levels)
 
 abbrev μ-loop : tie.MeasureT-loop
-μ-loop body counts tiles width number place₀ left₀ place left = left
+μ-loop body table levels i₀ i = levels - i
 
-near : (c : tie.In-loop Inv-loop μ-loop) → c .before .loop .left - 1 < 25
-near c = down-near (c .before .loop .inv) (c .loop-test .taken)
+-- what is said of the level at hand
+said : (c : tie.After-when Inv-loop μ-loop)
+    → (let x = c .before .before .before .before .before .before .before .args in
+    let i = c .before .before .before .before .before .loop .i in
+    c .when .result ≡ tableCountRefusal (x .body .now) (x .table .now) (x .levels - 1 - i))
+said c = c .when .ensures ∙ rw (c .before .u64-at .ensures)
 
-fits : (c : tie.In-loop Inv-loop μ-loop)
-    → (let l = c .before .loop in
-    let x = c .before .before .before .args in
-    l .place + 8 + getD (x .counts .now) (l .left - 1) 0 * x .width ≤ length (x .body .now))
-fits c = down-fits (c .before .loop .inv) (c .loop-test .taken) refl
+loop-holds : tie.Need-loop-holds Inv-loop μ-loop
+unfolding tableRefusal
+loop-holds c = (omega arith, sym (over-start otherwise none _ _))
+
+sub-place : tie.Need-sub-place Inv-loop μ-loop
+sub-place c = c .before .before .before .before .pre .1 _ (omega arith)
+
+returns : tie.Need-returns Inv-loop μ-loop
+returns c =
+    let w = c .before .before in
+    let t = w .before .before .before .before in
+    let l = t .before in
+    sym (stop-left _ (l .loop .i) _ _ (t .loop-test .taken) (said w) (c .if1 .taken)) ∙ l .loop .inv .1
+
+loop-again : tie.Need-loop-again Inv-loop μ-loop
+loop-again c =
+    let w = c .before .before in
+    let t = w .before .before .before .before in
+    let l = t .before in
+    (omega arith, sym (past-left _ (l .loop .i) _ _ (t .loop-test .taken) (said w) (c .if1 .left)) ∙ l .loop .inv .1)
+
+returns-2 : tie.Need-returns-2 Inv-loop μ-loop
+returns-2 c = c .none .ensures ∙ sym (none-left _ _ _ (omega arith)) ∙ c .before .before .loop .inv .1
 
 pub check-counts-spec : {M : Type 1} → statement M
 check-counts-spec =
@@ -31,21 +58,21 @@ check-counts-spec =
     (tie.spec
     Inv-loop
     μ-loop
-    (λ c. let p = c .before .pre in down-start (p .0) (p .1 .0) (p .1 .1 .0) (p .1 .1 .1))
+    loop-holds
     (λ c. search needs)
-    (λ c. omega (arith, near c))
-    (λ c. near c)
-    (λ c κs. search needs)
-    (λ c κs. search needs)
-    (λ c.
-    let l = c .before .before .before .before in
-    c .new .ensures ∙ down-stop (l .before .loop .inv) (l .loop-test .taken) refl (c .before .before .u64-at .ensures) (c .before .if1 .taken))
-    (λ c. omega (arith, fits (c .before .before .before)))
-    (λ c. omega (arith, fits (c .before .before .before)))
-    (λ c. omega (arith, fits (c .before .before .before)))
     (λ c. search needs)
-    (λ c.
-    let l = c .before .before .before in
-    down-on (l .before .loop .inv) (l .loop-test .taken) refl (c .before .u64-at .ensures) (c .if1 .left))
+    (λ c. search needs)
+    (λ c. search needs)
+    (λ c. search needs)
+    sub-place
+    (λ c. search needs)
+    (λ c. search needs)
+    (λ c. search needs)
     (λ c κs. search needs)
-    (λ c. c .none .ensures ∙ down-done (c .before .before .loop .inv) (c .before .loop-test .left)))
+    (λ c κs. search needs)
+    returns
+    (λ c. search needs)
+    (λ c. search needs)
+    loop-again
+    (λ c κs. search needs)
+    returns-2)

@@ -1,0 +1,6 @@
+-- The laws that belong to no one function.
+pub mod Tests
+pub mod Limits
+pub mod Sides
+pub mod Patterns
+pub mod Datatypes

@@ -1,0 +1,4 @@
+-- The definitions that this crate's contracts, and every crate above, cite.
+pub mod Limits
+pub mod Kinds
+pub mod Description

@@ -1,0 +1,154 @@
+// Opening a footer and a tree body together.
+use answers::Refusal;
+use description::Description;
+use rtree::Opened;
+ghost use mathlib.Core.Path.{_≡_};
+ghost use Prim.Native.Nat.{_≤_, _<_};
+ghost use Rattle.answers.specs.Refusals.{refusal};
+ghost use Rattle.description.specs.Description.{boxBytes};
+ghost use Rattle.description.specs.Limits.{leastTiles, mostTiles};
+ghost use Rattle.rtree.specs.Opening.{refusedIn, bodyRefusal, openAnswer};
+ghost use Rattle.opening.specs.Code.Stored.{runRefusal, tableRefusal, Run, TwoLevels};
+
+// Accepted, it answers n, f and L.
+pub fn open(description: Description, file_size: u64, footer: &[u8], body: &[u8]) -> Opened
+    ensures { λ r. ⌜ r ≡ openAnswer description «file_size» (now (footer .entry)) (now (body .entry)) ⌝ }
+{
+    let checked = footer::check(description, file_size, footer);
+    if checked.number != 0 {
+        return refused_in(0, checked.number, checked.place);
+    }
+    let from = checked.domain as usize;
+    let to = from + description.box_bytes();
+    let told = check_body(description, checked.tiles, body, &footer[from..to]);
+    if told.number != 0 {
+        return refused_in(1, told.number, told.place);
+    }
+    Opened {
+        number: 0,
+        place: 0,
+        which: 0,
+        tiles: checked.tiles,
+        fanout: order::u32_at(body, 0) as u64,
+        levels: order::u32_at(body, 4) as u64,
+    }
+}
+
+fn refused_in(which: u64, number: u64, place: u64) -> Opened
+    ensures { λ r. ⌜ r ≡ refusedIn which (refusal number place) ⌝ }
+{
+    Opened {
+        number: number,
+        place: place,
+        which: which,
+        tiles: 0,
+        fanout: 0,
+        levels: 0,
+    }
+}
+
+// The shape; then the first box inside the domain, and each row of children inside its parent, level by level.
+fn check_body(description: Description, tiles: u64, body: &[u8], domain: &[u8]) -> Refusal
+    requires { ⌜ leastTiles ≤ tiles ⌝ }
+    requires { ⌜ tiles ≤ mostTiles ⌝ }
+    requires { ⌜ 0 < boxBytes description ⌝ }
+    ensures { λ r. ⌜ r ≡ bodyRefusal description tiles (now (domain .entry)) (now (body .entry)) ⌝ }
+{
+    let shaped = rtree::check_shape(description, tiles, body);
+    if shaped.number != 0 {
+        return Refusal::new(shaped.number, shaped.place);
+    }
+    let box_bytes = description.box_bytes();
+    let outside = Refusal::OUTSIDE_DOMAIN;
+    let root = check_row(body, description, box_bytes, 16, 0, 1, domain, outside);
+    if root.number != 0 {
+        return root;
+    }
+    let fanout = shaped.fanout;
+    let shape = shaped.shape;
+    let table = shape.table;
+    let top = shape.levels - 1;
+    let mut l: usize = 0;
+    while l < top {
+        let told = check_level(body, description, box_bytes, fanout, &table, top - l);
+        if told.number != 0 {
+            return told;
+        }
+        l += 1;
+    }
+    Refusal::none()
+}
+
+// The level below the one at distance `above`, row by row: each row inside its parent. The table has the place of each
+// level's first box, and its count.
+fn check_level(
+    body: &[u8],
+    description: Description,
+    box_bytes: usize,
+    fanout: usize,
+    table: &[usize; 50],
+    above: usize,
+) -> Refusal
+    requires { ⌜ TwoLevels description (now body) (now table) «box_bytes» fanout above ⌝ }
+    ensures { λ r. ⌜ r ≡ tableRefusal description (now (body .entry)) (now (table .entry)) fanout above ⌝ }
+{
+    let below = above - 1;
+    let start = table[2 * above];
+    let parents = table[2 * above + 1];
+    let next = table[2 * below];
+    let count = table[2 * below + 1];
+    let mut k: usize = 0;
+    while k < parents {
+        let at = start + k * box_bytes;
+        let end = at + box_bytes;
+        let first = k * fanout;
+        let len = tree::row_length(fanout, count, first);
+        let told = check_row(
+            body,
+            description,
+            box_bytes,
+            next,
+            first,
+            len,
+            &body[at..end],
+            Refusal::OUTSIDE_PARENT,
+        );
+        if told.number != 0 {
+            return told;
+        }
+        k += 1;
+    }
+    Refusal::none()
+}
+
+// Of the boxes from `start` on, those from box `first` on, `count` of them, each inside one box: the fault of the first
+// that has one, placed in the body.
+fn check_row(
+    body: &[u8],
+    description: Description,
+    box_bytes: usize,
+    start: usize,
+    first: usize,
+    count: usize,
+    outer: &[u8],
+    number: u64,
+) -> Refusal
+    requires { ⌜ Run description (now body) «box_bytes» start first count ⌝ }
+    requires { ⌜ 0 < number ⌝ }
+    ensures { λ r. ⌜ r ≡ runRefusal description (now (body .entry)) (now (outer .entry)) number start first count ⌝ }
+{
+    let from = start + first * box_bytes;
+    let to = from + count * box_bytes;
+    let kinds = description.kinds;
+    let told = boxes::check_row(
+        &body[from..to],
+        kinds,
+        description.dimensions,
+        outer,
+        number,
+    );
+    if told.number == 0 {
+        return told;
+    }
+    Refusal::new(told.number, from as u64 + told.place)
+}

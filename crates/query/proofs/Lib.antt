@@ -1,0 +1,5 @@
+-- The laws that belong to no one function.
+pub mod Promised
+mod Rows
+mod Root
+mod Window

@@ -1,0 +1,144 @@
+-- What becomes of a range that was made of patterns, where its ends' patterns are asked for again? A pattern that is no NaN's comes back as it
+-- was, and a NaN's comes back as a NaN's, so the range compares as its patterns do: comparing what was read is comparing the bytes.
+-- Assumes nothing.
+use mathlib.Core.Path.{_≡_, refl, ap, _∙_}
+use mathlib.Core.Logic.{_⊎_, inl, inr}
+use mathlib.Core.Bool.{Bool, true, false}
+use mathlib.Core.List.{List, [], _∷_}
+use Prim.Native.Nat.{ℕ, _<_, _^_}
+use native.Mathlib.Nat.{mod-eq-of-lt}
+use types.Run.{OneOf, miss}
+use denote.Enum.Declared.{tagOf}
+use lib.ListN.{getD}
+use lib.Ieee.{Format, binary32, binary64, toBits, ofBits, nanBits}
+use lib.IntN.{ℤ}
+use lib.Signed.{mag}
+use mir.Syntax.{Width, w32, w64}
+use mir.Val.{Fits, widthOf, hbits, toZ, ofZ}
+use mir.ValLaws.{toZ-ofZ, ofZ-toZ}
+use Rattle.order.proofs.Pairs.{first-lt, second-lt}
+use Rattle.order.proofs.Read.{nan-read, bits-read}
+use Rattle.description.proofs.Kind.{the-type}
+use Rattle.description.specs.declared.Kind.{Kind}
+use Rattle.description.specs.declared.Kind.the-variants.{Int32, Int64, Float32, Float64}
+use Rattle.description.specs.Kinds.{endBytes, isNan}
+use Rattle.description.proofs.Datatypes.{when-same}
+use Rattle.description.proofs.Patterns.{Alike, alike-nan, alike-left, alike-right}
+use Rattle.ranges.specs.declared.Range.{Range}
+use Rattle.ranges.specs.Ranges.{Ends, ends, kindOf, endsAt, endsOf, fitted, rangeOf, rangeAt, verdict, inside, meets}
+use Rattle.ranges.proofs.Judging.{verdict-on-is}
+use Rattle.ranges.proofs.Comparing.{within, touching, ends-kind}
+
+-- ---- as the code makes a range: of signed values that were passed on
+pub int-held : (w : Width) (x : ℤ) {p q : ℕ} → mag x < 2 ^ hbits w → x ≡ toZ w p → p ≡ q → toZ w (ofZ w x) ≡ toZ w q
+int-held w x f e d = toZ-ofZ w x (record { sfits = f }) ∙ e ∙ ap (toZ w) d
+
+-- ---- as the code gives its ends' patterns
+module _ (k : Kind) (a b : ℕ) (r s : Range) (known : s ≡ r) (is : endsOf r ≡ ends k a b) where
+  pub patterns-of : {x y : ℕ} → x ≡ a → y ≡ b → x < 256 ^ endBytes k → y < 256 ^ endBytes k
+      → (x ≡ endsOf s .low) × (y ≡ endsOf s .high) × (x < 256 ^ endBytes (kindOf s)) × (y < 256 ^ endBytes (kindOf s))
+  patterns-of p q l h = rw (← (ends-kind s), known, is) (p, q, l, h)
+
+-- the bytes of an end, by the tag of the kind
+pub four-bytes : (k : Kind) → OneOf (0 ∷ 2 ∷ []) (tagOf the-type k) → endBytes k ≡ 4
+four-bytes Int32 h = refl
+four-bytes Int64 h = absurd (miss (0 ∷ 2 ∷ []) 1 tt h)
+four-bytes Float32 h = refl
+four-bytes Float64 h = absurd (miss (0 ∷ 2 ∷ []) 3 tt h)
+
+pub eight-bytes : (k : Kind) → OneOf (1 ∷ 3 ∷ []) (tagOf the-type k) → endBytes k ≡ 8
+eight-bytes Int32 h = absurd (miss (1 ∷ 3 ∷ []) 0 tt h)
+eight-bytes Int64 h = refl
+eight-bytes Float32 h = absurd (miss (1 ∷ 3 ∷ []) 2 tt h)
+eight-bytes Float64 h = refl
+
+-- ---- a pattern that fits, and its value's
+pub fitted-same : (k : Kind) (p : ℕ) → p < 256 ^ endBytes k → fitted k p ≡ p
+fitted-same k p h = mod-eq-of-lt h
+
+abbrev again : Kind → ℕ → ℕ
+again Int32 p = ofZ w32 (toZ w32 p)
+again Int64 p = ofZ w64 (toZ w64 p)
+again Float32 p = toBits binary32 (ofBits binary32 p)
+again Float64 p = toBits binary64 (ofBits binary64 p)
+
+ends-again : (k : Kind) (a b : ℕ) → endsOf (rangeOf k a b) ≡ ends k (again k a) (again k b)
+unfolding endsOf
+ends-again Int32 a b = refl
+ends-again Int64 a b = refl
+ends-again Float32 a b = refl
+ends-again Float64 a b = refl
+
+float-again : (f : Format) (p : ℕ) → Fits (widthOf f) p
+    → (toBits f (ofBits f p) ≡ p) ⊎ ((nanBits f (toBits f (ofBits f p)) ≡ true) × (nanBits f p ≡ true))
+float-again f p h = go (nanBits f p) refl
+  where
+    go : (t : Bool) → nanBits f p ≡ t → (toBits f (ofBits f p) ≡ p) ⊎ ((nanBits f (toBits f (ofBits f p)) ≡ true) × (nanBits f p ≡ true))
+    go true e = inr (nan-read f p ∙ e, e)
+    go false e = inl (bits-read f p h e)
+
+alike-again : (k : Kind) (p : ℕ) → p < 256 ^ endBytes k → Alike k (again k p) p
+unfolding isNan
+alike-again Int32 p h = inl (ofZ-toZ w32 p (record { fits = h }))
+alike-again Int64 p h = inl (ofZ-toZ w64 p (record { fits = h }))
+alike-again Float32 p h = float-again binary32 p (record { fits = h })
+alike-again Float64 p h = float-again binary64 p (record { fits = h })
+
+-- ---- a range made of patterns that fit
+module _ (k : Kind) (a b : ℕ) (a-fits : a < 256 ^ endBytes k) (b-fits : b < 256 ^ endBytes k) where
+  low : Alike k (again k a) a
+  low = alike-again k a a-fits
+
+  high : Alike k (again k b) b
+  high = alike-again k b b-fits
+
+  as-made : {A : Type 0} (f : Ends → A) → f (ends k (again k a) (again k b)) ≡ f (ends k a b) → f (endsOf (rangeOf k a b)) ≡ f (ends k a b)
+  as-made f e = ap f (ends-again k a b) ∙ e
+
+  pub of-verdict : (r : Range) → verdict (endsOf (rangeOf k a b)) r ≡ verdict (ends k a b) r
+  of-verdict r =
+      as-made (λ e. verdict e r)
+      (rw (verdict-on-is k (again k a) (again k b) r, verdict-on-is k a b r, alike-left k (again k a) a (again k b) low, alike-right k (again k b) b a high, alike-nan k (again k a) a low, alike-nan k (again k b) b high))
+
+  pub of-inside-left : (o : Ends) → inside (endsOf (rangeOf k a b)) o ≡ inside (ends k a b) o
+  unfolding inside
+  of-inside-left o =
+      as-made (λ e. inside e o) (rw (alike-right k (again k a) a (o .low) low, alike-left k (again k b) b (o .high) high))
+
+  pub of-meets-left : (o : Ends) → meets (endsOf (rangeOf k a b)) o ≡ meets (ends k a b) o
+  unfolding meets
+  of-meets-left o =
+      as-made (λ e. meets e o) (rw (alike-left k (again k a) a (o .high) low, alike-right k (again k b) b (o .low) high))
+
+  pub of-inside-right : (e : Ends) → inside e (endsOf (rangeOf k a b)) ≡ inside e (ends k a b)
+  unfolding inside
+  of-inside-right e =
+      as-made (inside e)
+      (when-same (e .kind) k (λ x. within x (e .low) (e .high) (again k a) (again k b)) (λ x. within x (e .low) (e .high) a b)
+      (rw (alike-left k (again k a) a (e .low) low, alike-right k (again k b) b (e .high) high)))
+
+  pub of-meets-right : (e : Ends) → meets e (endsOf (rangeOf k a b)) ≡ meets e (ends k a b)
+  unfolding meets
+  of-meets-right e =
+      as-made (meets e)
+      (when-same (e .kind) k (λ x. touching x (e .low) (e .high) (again k a) (again k b)) (λ x. touching x (e .low) (e .high) a b)
+      (rw (alike-right k (again k b) b (e .low) high, alike-left k (again k a) a (e .high) low)))
+
+-- ---- a range that was read
+module _ (s : List ℕ) (byte : (i : ℕ) → getD s i 0 < 256) (k : Kind) (at : ℕ) where
+  pub ends-at-fit : (endsAt k s at .low < 256 ^ endBytes k) × (endsAt k s at .high < 256 ^ endBytes k)
+  unfolding endsAt
+  ends-at-fit =
+      (first-lt s (λ i. record { fits = byte i }) at (endBytes k), second-lt s (λ i. record { fits = byte i }) at (endBytes k))
+
+  pub read-verdict : (r : Range) → verdict (endsOf (rangeAt k s at)) r ≡ verdict (endsAt k s at) r
+  unfolding endsAt
+  read-verdict = of-verdict k (endsAt k s at .low) (endsAt k s at .high) (ends-at-fit .0) (ends-at-fit .1)
+
+  pub read-inside-left : (o : Ends) → inside (endsOf (rangeAt k s at)) o ≡ inside (endsAt k s at) o
+  unfolding endsAt
+  read-inside-left = of-inside-left k (endsAt k s at .low) (endsAt k s at .high) (ends-at-fit .0) (ends-at-fit .1)
+
+  pub read-meets-left : (q : Ends) → meets (endsOf (rangeAt k s at)) q ≡ meets (endsAt k s at) q
+  unfolding endsAt
+  read-meets-left = of-meets-left k (endsAt k s at .low) (endsAt k s at .high) (ends-at-fit .0) (ends-at-fit .1)

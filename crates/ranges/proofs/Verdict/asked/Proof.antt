@@ -1,0 +1,26 @@
+-- `Verdict::asked` meets its contract: each case says what the definition says of it. Assumes nothing.
+use borrow.Author.Needs.{needs}
+use Rattle.ranges.specs.Ranges.{askedRefusal}
+use Rattle.ranges.proofs.Judging.{when-known}
+use Rattle.ranges.proofs.Verdict.asked.Statement.{statement}
+use Rattle.ranges.proofs.Verdict.asked.Tie as tie
+
+returns-2 : tie.Need-returns-2
+returns-2 c = when-known (λ v. askedRefusal v (c .before .before .before .args .place)) (c .before .enum-told2 .given .1) (c .new .ensures)
+
+returns-3 : tie.Need-returns-3
+returns-3 c = when-known (λ v. askedRefusal v (c .before .before .before .args .place)) (c .before .enum-told3 .given .1) (c .new2 .ensures)
+
+pub asked-spec : {M : Type 1} → statement M
+asked-spec =
+    tie.close
+    (tie.spec
+    (λ c. search needs)
+    (λ c κs. search needs)
+    (λ c. search needs)
+    (λ c κs. search needs)
+    (λ c. search needs)
+    (λ c κs. search needs)
+    (λ c. search needs)
+    returns-2
+    returns-3)
