@@ -67,7 +67,7 @@ def groups(ratios, pictured=False):
     by_fanout = {peer: [(peer, f"query, f = {f}", of(peer, "query", f"f={f}")) for f in FANOUTS] for peer in PEERS}
     by_kind = [("rust", f"query, {kind}", of("rust", "query", kind)) for kind in KINDS]
     made = by_fanout["rust"] + ([] if pictured else by_kind)
-    made += [("rust", "opening", of("rust", "open")), ("rust", "lists", of("rust", "offsets") + of("rust", "sizes"))]
+    made += [("rust", "opening", of("rust", "open")), ("rust", "lists", [*of("rust", "offsets"), *of("rust", "var offsets"), *of("rust", "sizes")])]
     for peer in ("boost", "libspatialindex"):
         made += [(peer, f"query, {size} windows", of(peer, "query", size)) for size in ("small", "large")]
         made += [] if pictured else by_fanout[peer]
@@ -214,7 +214,7 @@ def page(tables, ratios):
         prose("Footer and tree together, every box checked."),
         pair_table({"kind": "Kind", "D": "D", "f": "f", "n": "n", "bytes": "Bytes"}, tables["open"], "byte"),
         "## Lists",
-        prose("Checking tile offsets, and checking and adding up tile sizes."),
+        prose("Checking tile offsets, checking var offsets, and checking and adding up tile sizes."),
         pair_table({"list": "List", "n": "n"}, tables["list"], "entry"),
     ]
     return "\n\n".join(sections) + "\n"

@@ -1,4 +1,5 @@
-/* Tussockbell for C and C++: the footer and the R-tree of a TileDB fragment's metadata, tile offsets and tile sizes.
+/* Tussockbell for C and C++: the footer and the R-tree of a TileDB fragment's metadata, tile offsets, var offsets and
+ * tile sizes.
  *
  * Every function takes any input and writes every place of its answer array; none keeps a pointer. A byte string is a
  * pointer and a length. With length 0 nothing is read or written through the pointer, which may then be null. A pointer
@@ -11,9 +12,10 @@
  *
  * An answer's first two places are the refusal's number, 0 for none, and its place in the bytes that were lent;
  * where the refusal is about a window's side, the place is its dimension, from 0. After a refusal every other number
- * is 0 unless a comment says otherwise. The answers of tussockbell_schema_name, tussockbell_extent and
- * tussockbell_extent_at hold no refusal, and neither do the numbers that a function returns; tussockbell_footer and
- * tussockbell_offsets say whether a footer or a list is refused, and why. */
+ * is 0 unless a comment says otherwise. The answers of tussockbell_schema_name, tussockbell_extent,
+ * tussockbell_var_extent and tussockbell_extent_at hold no refusal, and neither do the numbers that a function returns;
+ * tussockbell_footer, tussockbell_offsets and tussockbell_var_offsets say whether a footer or a list is refused, and
+ * why. */
 #ifndef TUSSOCKBELL_H
 #define TUSSOCKBELL_H
 
@@ -174,11 +176,11 @@ static inline const char *tussockbell_refusal_text(uint64_t number)
 #define TUSSOCKBELL_QUERY_LOOKED 3
 #define TUSSOCKBELL_QUERY_PLACES 4
 
-/* tussockbell_offsets */
+/* tussockbell_offsets and tussockbell_var_offsets */
 #define TUSSOCKBELL_OFFSETS_TILES 2
 #define TUSSOCKBELL_OFFSETS_PLACES 3
 
-/* tussockbell_extent and tussockbell_extent_at */
+/* tussockbell_extent, tussockbell_var_extent and tussockbell_extent_at */
 #define TUSSOCKBELL_EXTENT_OFFSET 0
 #define TUSSOCKBELL_EXTENT_LENGTH 1
 #define TUSSOCKBELL_EXTENT_PLACES 2
@@ -236,8 +238,18 @@ void tussockbell_offsets(uint64_t tiles, uint64_t size, const uint8_t *list, siz
 void tussockbell_extent(uint64_t tiles, uint64_t size, const uint8_t *list, size_t list_length, uint64_t tile,
                         uint64_t *answer /* [TUSSOCKBELL_EXTENT_PLACES] */);
 
-/* The same with no check of the list, for one that tussockbell_offsets accepts with these numbers: then the answer
- * is tussockbell_extent's. Over other bytes an entry that is not there counts as 0, and an extent below 0 as 0. */
+/* Checks the var offsets of a data file of `size` bytes: the first is 0, none is below the one before or above `size`,
+ * so that a tile may have no bytes. */
+void tussockbell_var_offsets(uint64_t tiles, uint64_t size, const uint8_t *list, size_t list_length,
+                             uint64_t *answer /* [TUSSOCKBELL_OFFSETS_PLACES] */);
+
+/* tussockbell_extent for a list of var offsets. */
+void tussockbell_var_extent(uint64_t tiles, uint64_t size, const uint8_t *list, size_t list_length, uint64_t tile,
+                            uint64_t *answer /* [TUSSOCKBELL_EXTENT_PLACES] */);
+
+/* The same with no check of the list, for one that tussockbell_offsets or tussockbell_var_offsets accepts with these
+ * numbers: then the answer is tussockbell_extent's or tussockbell_var_extent's. Over other bytes an entry that is not
+ * there counts as 0, and an extent below 0 as 0. */
 void tussockbell_extent_at(uint64_t tiles, uint64_t size, const uint8_t *list, size_t list_length, uint64_t tile,
                            uint64_t *answer /* [TUSSOCKBELL_EXTENT_PLACES] */);
 

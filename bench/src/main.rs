@@ -197,11 +197,12 @@ impl Opened {
     }
 }
 
-/// Both lists of so many tiles.
+/// The three lists of so many tiles. Of the var offsets every third tile has no bytes.
 struct Listed {
     tiles: u64,
     size: u64,
     offsets: Vec<u8>,
+    var_offsets: Vec<u8>,
     sizes: Vec<u8>,
 }
 
@@ -209,17 +210,22 @@ impl Listed {
     /// Both say the same of them.
     fn new(n: u64) -> Listed {
         let offsets = data::list((0..n).map(|i| 1_000 * i));
+        let var_offsets = data::list((0..n).map(|i| 1_000 * (i - i.div_ceil(3))));
         let sizes = data::list((0..n).map(|i| 900 + i % 100));
-        let listed = Listed { tiles: n, size: 1_000 * n, offsets, sizes };
-        assert_eq!(peers::offsets(n, listed.size, &listed.offsets), [0, 0, plain::offsets(n, listed.size, &listed.offsets).unwrap()]);
+        let listed = Listed { tiles: n, size: 1_000 * n, offsets, var_offsets, sizes };
+        let (offsets, vars) = (&listed.offsets, &listed.var_offsets);
+        assert_eq!(peers::offsets(n, listed.size, offsets), [0, 0, plain::offsets(n, listed.size, offsets).unwrap()]);
+        assert_eq!(peers::var_offsets(n, listed.size, vars), [0, 0, plain::var_offsets(n, listed.size, vars).unwrap()]);
         assert_eq!(peers::sizes(n, &listed.sizes), [0, 0, plain::sizes(n, &listed.sizes).unwrap()]);
         listed
     }
 
-    fn runs(&self) -> [Run<'_>; 4] {
+    fn runs(&self) -> [Run<'_>; 6] {
         [
             Box::new(|| _ = black_box(peers::offsets(self.tiles, self.size, black_box(&self.offsets)))),
             Box::new(|| _ = black_box(plain::offsets(self.tiles, self.size, black_box(&self.offsets)))),
+            Box::new(|| _ = black_box(peers::var_offsets(self.tiles, self.size, black_box(&self.var_offsets)))),
+            Box::new(|| _ = black_box(plain::var_offsets(self.tiles, self.size, black_box(&self.var_offsets)))),
             Box::new(|| _ = black_box(peers::sizes(self.tiles, black_box(&self.sizes)))),
             Box::new(|| _ = black_box(plain::sizes(self.tiles, black_box(&self.sizes)))),
         ]
@@ -280,8 +286,8 @@ impl Bench {
     fn list_cases(&mut self) {
         let listed = [1_000, 4_000, 16_000, 65_536].map(Listed::new);
         let taken = measure(listed.iter().flat_map(Listed::runs).collect(), self.rounds);
-        for (listed, taken) in listed.iter().zip(taken.chunks(4)) {
-            for (name, taken) in ["offsets", "sizes"].iter().zip(taken.chunks(2)) {
+        for (listed, taken) in listed.iter().zip(taken.chunks(6)) {
+            for (name, taken) in ["offsets", "var offsets", "sizes"].iter().zip(taken.chunks(2)) {
                 let n = listed.tiles;
                 self.rows.push(format!("list\t{name}\t{n}\t{}", beside(taken, n as f64)));
                 if TILES.contains(&(n as usize)) {

@@ -15,6 +15,7 @@ unsafe extern "C" {
         out_length: usize, answer: *mut u64,
     );
     fn tussockbell_offsets(tiles: u64, size: u64, list: *const u8, list_length: usize, answer: *mut u64);
+    fn tussockbell_var_offsets(tiles: u64, size: u64, list: *const u8, list_length: usize, answer: *mut u64);
     fn tussockbell_sizes(tiles: u64, list: *const u8, list_length: usize, answer: *mut u64);
 }
 
@@ -67,6 +68,13 @@ pub fn query(
 pub fn offsets(tiles: u64, size: u64, list: &[u8]) -> [u64; 3] {
     let mut answer = [0; 3];
     unsafe { tussockbell_offsets(tiles, size, list.as_ptr(), list.len(), answer.as_mut_ptr()) }
+    answer
+}
+
+/// Number, place, tiles.
+pub fn var_offsets(tiles: u64, size: u64, list: &[u8]) -> [u64; 3] {
+    let mut answer = [0; 3];
+    unsafe { tussockbell_var_offsets(tiles, size, list.as_ptr(), list.len(), answer.as_mut_ptr()) }
     answer
 }
 

@@ -479,6 +479,22 @@ pub fn offsets(tiles: u64, size: u64, list: &[u8]) -> Result<u64, Refused> {
 }
 
 #[inline(never)]
+pub fn var_offsets(tiles: u64, size: u64, list: &[u8]) -> Result<u64, Refused> {
+    let mut entries = entries(tiles, list)?;
+    let mut before = 0;
+    if entries.next().is_some_and(|(_, first)| first != 0) {
+        return refuse(refusal::TILE_OFFSETS, 8);
+    }
+    for (at, offset) in entries {
+        if offset < before || offset > size {
+            return refuse(refusal::TILE_OFFSETS, at);
+        }
+        before = offset;
+    }
+    Ok(tiles)
+}
+
+#[inline(never)]
 pub fn sizes(tiles: u64, list: &[u8]) -> Result<u64, Refused> {
     let mut sum = 0u64;
     for (at, size) in entries(tiles, list)? {

@@ -31,14 +31,14 @@ import os
 import pathlib
 import struct
 from array import array
-from collections.abc import Iterable, Iterator, Sequence
+from collections.abc import Callable, Iterable, Iterator, Sequence
 from contextlib import contextmanager
 from dataclasses import dataclass, field
 from typing import Any, NamedTuple, Optional, SupportsFloat, SupportsIndex, Tuple, Union, overload
 
 __all__ = [
     "Description", "Footer", "Hit", "Offsets", "Refused", "Tree", "Window",
-    "open_tree", "query", "read_footer", "tile_offsets", "tile_sizes",
+    "open_tree", "query", "read_footer", "tile_offsets", "tile_sizes", "var_tile_offsets",
 ]
 
 Bytes = Union[bytes, bytearray, memoryview, mmap.mmap]
@@ -134,6 +134,7 @@ _c_total_cells = _function("total_cells", _footer, _u64)
 _c_open = _function("open", [*_footer, *_bytes, _pointer])
 _c_query = _function("query", [*_description, _u64, *_bytes, *_bytes, *_bytes, *_bytes, _pointer])
 _c_offsets = _function("offsets", [*_list, _pointer])
+_c_var_offsets = _function("var_offsets", [*_list, _pointer])
 _c_extent_at = _function("extent_at", [*_list, _u64, _pointer])
 _c_sizes = _function("sizes", [_u64, *_bytes, _pointer])
 
@@ -537,7 +538,7 @@ def open_tree(description: Description, file_size: SupportsIndex, footer: Bytes,
 class Offsets(Sequence[Tuple[int, int]]):
     """Checked tile offsets: for each tile where its bytes start in the data file, and how many they are.
 
-    `tile_offsets` makes it. Indices and slices are as those of a list.
+    `tile_offsets` and `var_tile_offsets` make it. Indices and slices are as those of a list.
 
     It keeps hold of the list's bytes for as long as it lives, with no copy. They must stay as they are: they are not checked
     again.
@@ -576,9 +577,21 @@ def tile_offsets(tiles: SupportsIndex, data_file_size: SupportsIndex, offsets: B
 
     The list's bytes must stay as they are while the `Offsets` are in use.
     """
+    return _checked_offsets(_c_offsets, tiles, data_file_size, offsets)
+
+
+def var_tile_offsets(tiles: SupportsIndex, data_file_size: SupportsIndex, offsets: Bytes) -> Offsets:
+    """Checks the var offsets of a var data file of `data_file_size` bytes, of which a tile may have none.
+
+    The list's bytes must stay as they are while the `Offsets` are in use.
+    """
+    return _checked_offsets(_c_var_offsets, tiles, data_file_size, offsets)
+
+
+def _checked_offsets(ask: Callable[..., None], tiles: SupportsIndex, data_file_size: SupportsIndex, offsets: Bytes) -> Offsets:
     number, size, answer = _limited(tiles), _file_size(data_file_size), _OffsetsAnswer()
     with _kept(offsets) as view:
-        _c_offsets(number, size, *_lent(view), answer)
+        ask(number, size, *_lent(view), answer)
         _check(answer)
         return Offsets(answer[_OFFSETS_TILES], size, view)
 

@@ -127,6 +127,13 @@ int main(void)
     show("extent", extent, TUSSOCKBELL_EXTENT_PLACES);
     tussockbell_extent_at(3, 300, list, list_length, 2, extent);
     show("extent of the last", extent, TUSSOCKBELL_EXTENT_PLACES);
+    put(list, 24, 300, 8);
+    tussockbell_offsets(3, 300, list, list_length, offsets);
+    show("offsets with one at the end", offsets, TUSSOCKBELL_OFFSETS_PLACES);
+    tussockbell_var_offsets(3, 300, list, list_length, offsets);
+    show("var offsets with one at the end", offsets, TUSSOCKBELL_OFFSETS_PLACES);
+    tussockbell_var_extent(3, 300, list, list_length, 2, extent);
+    show("var extent of the last", extent, TUSSOCKBELL_EXTENT_PLACES);
     tussockbell_sizes(3, list, list_length, sizes);
     show("sizes", sizes, TUSSOCKBELL_SIZES_PLACES);
     return 0;

@@ -190,6 +190,8 @@ class Same(unittest.TestCase):
 
     def same_lists(self, n, size, offsets, sizes):
         self.same(outcome(lambda: list(tb.tile_offsets(n, size, offsets))), outcome(rules.extents, n, size, offsets))
+        nearest = min(max(size, 0), MOST)
+        self.same(outcome(lambda: list(tb.var_tile_offsets(n, size, offsets))), outcome(rules.var_extents, n, nearest, offsets))
         self.same(outcome(tb.tile_sizes, n, sizes), outcome(rules.sizes, n, sizes))
 
 
@@ -237,6 +239,9 @@ class Generated(Same):
                 self.same_lists(n, size, f.damaged(f.offsets), f.damaged(f.sizes))
             numbers = sorted(chance.choice((0, 1, 2**63, MOST - 1, MOST)) for _ in range(f.n))
             self.same_lists(f.n, MOST, pieces.entries(numbers), pieces.entries(numbers))
+            size = chance.choice((0, 1, 300, MOST - 1, MOST))
+            numbers = [0, *sorted(chance.choice((0, size // 2, size, size, min(size + 1, MOST))) for _ in range(f.n - 1))]
+            self.same_lists(f.n, size, pieces.entries(numbers), pieces.entries(numbers))
         self.assertGreater(self.compared, 4000)
         self.assertLessEqual({2, 3, 4, 5, *range(8, 19), 20}, self.refusals)
 
@@ -508,6 +513,7 @@ class Buffers(unittest.TestCase):
         yield lambda: tb.open_tree(ONE, SAMPLE_SIZE, SAMPLE["footer"], data)
         yield lambda: tb.query(ONE, 3, data, [(12, 21)])
         yield lambda: tb.tile_offsets(3, SAMPLE_DATA_SIZE, data)
+        yield lambda: tb.var_tile_offsets(3, SAMPLE_DATA_SIZE, data)
         yield lambda: tb.tile_sizes(3, data)
 
     def test_no_bytes(self):
@@ -526,13 +532,14 @@ class Buffers(unittest.TestCase):
                 lambda: tb.Description(["int32"], wrong, 32), lambda: tb.Description(["int32"], 1, wrong),
                 lambda: tb.read_footer(ONE, wrong, b""), lambda: tb.query(ONE, wrong, b"", []),
                 lambda: tb.tile_offsets(3, wrong, b""), lambda: tb.tile_offsets(wrong, 3, b""), lambda: tb.tile_sizes(wrong, b""),
+                lambda: tb.var_tile_offsets(3, wrong, b""), lambda: tb.var_tile_offsets(wrong, 3, b""),
             ):
                 self.assertRaises(TypeError, ask)
 
     def test_released_after_each_call(self):
         """A bytearray can't be resized while it is lent. A refusal is kept, and its frames hold nothing of the bytes."""
         for data in (b"", SAMPLE["tree"], SAMPLE["footer"], SAMPLE["offsets"]):
-            for number in range(6):
+            for number in range(7):
                 lent = bytearray(data)
                 refusal = None
                 try:
@@ -541,13 +548,13 @@ class Buffers(unittest.TestCase):
                     refusal = refused
                 lent.append(0)
                 self.assertEqual(len(lent), len(data) + 1)
-                self.assertEqual(refusal is None, number in {80: (2, 3), 166: (0, 1), 32: (4, 5)}.get(len(data), ()))
+                self.assertEqual(refusal is None, number in {80: (2, 3), 166: (0, 1), 32: (4, 5, 6)}.get(len(data), ()))
         for mapping in (self.mapped(SAMPLE["tree"], access) for access in (mmap.ACCESS_READ, mmap.ACCESS_WRITE)):
             self.assertEqual(tb.query(ONE, 3, mapping, [(12, 21)]).found, 2)
             mapping.close()
 
     def test_tree_and_offsets_hold_their_bytes(self):
-        for number, name in ((2, "tree"), (4, "offsets")):
+        for number, name in ((2, "tree"), (4, "offsets"), (5, "offsets")):
             lent = bytearray(SAMPLE[name])
             held = list(self.asked_with(lent))[number]()
             self.assertRaises(BufferError, lent.append, 0)
@@ -623,6 +630,12 @@ class Trees(unittest.TestCase):
         self.assertEqual((list(offsets), list(reversed(offsets)), offsets.index((100, 150))), (expected, expected[::-1], 1))
         self.assertIn((250, 50), offsets)
 
+    def test_var_tiles_of_no_bytes(self):
+        listed = pieces.entries([0, 100, 300])
+        self.assertEqual(outcome(tb.tile_offsets, 3, 300, listed)[1:3], (18, 24))
+        self.assertEqual(list(tb.var_tile_offsets(3, 300, listed)), [(0, 100), (100, 200), (300, 0)])
+        self.assertEqual(list(tb.var_tile_offsets(3, 0, pieces.entries([0, 0, 0]))), [(0, 0)] * 3)
+
     def test_threads(self):
         """Threads that ask one tree and one list at once, each many times."""
         f = Fragment(["int32", "float64"], 200, 4, 1, random.Random(6))
@@ -675,9 +688,9 @@ class Header(unittest.TestCase):
         """Parameters and results as the header declares them."""
         types = {"uint64_t": ctypes.c_uint64, "size_t": ctypes.c_size_t, "void": None}
         declared = re.findall(r"^(\w+) tussockbell_(\w+)\(([^;{]*)\);", self.header, re.M)
-        self.assertEqual(len(declared), 11)
+        self.assertEqual(len(declared), 13)
         asked = {name for name in vars(tb) if name.startswith("_c_")}
-        self.assertEqual({"_c_" + name for _, name, _ in declared} - asked, {"_c_extent", "_c_report"})
+        self.assertEqual({"_c_" + name for _, name, _ in declared} - asked, {"_c_extent", "_c_var_extent", "_c_report"})
         for result, name, parameters in declared:
             if "_c_" + name in asked:
                 parameters = re.sub(r"/\*.*?\*/", "", parameters).split(",")

@@ -171,14 +171,19 @@ def footer_cases(cases):
 def list_cases(cases):
     none = Description([], 0, 0)
 
-    def ask(n, size, data, tile=0):
+    def ask_by(what, rule, n, size, data, tile):
         try:
-            answer = [0, 0, len(rules.offsets(n, size, data))]
-            extents = rules.extents(n, size, data)
-            answer += extents[tile] if tile < n else (0, 0)
+            extents = rule(n, size, data)
+            answer = [0, 0, len(extents), *(extents[tile] if tile < n else (0, 0))]
         except Refused as r:
             answer = [r.number, r.place, 0, 0, 0]
-        cases.add(3, none, [n, size, tile], data, b"", text(answer))
+        cases.add(what, none, [n, size, tile], data, b"", text(answer))
+
+    def ask(n, size, data, tile=0):
+        ask_by(3, rules.extents, n, size, data, tile)
+
+    def ask_var(n, size, data, tile=0):
+        ask_by(8, rules.var_extents, n, size, data, tile)
 
     def ask_sizes(n, data):
         try:
@@ -196,9 +201,17 @@ def list_cases(cases):
     ):
         for tile in (0, 2):
             ask(3, size, pieces.entries(offsets), tile)
-    ask(1, 1, pieces.entries([0]))
-    ask(1, 0, pieces.entries([0]))
-    for list_case in (lambda n, data: ask(n, 300, data), ask_sizes):
+            ask_var(3, size, pieces.entries(offsets), tile)
+    for offsets, size in (
+        ([0, 0, 0], 0), ([0, 0, 0], 300), ([0, 300, 300], 300), ([0, 100, 301], 300), ([0, 301, 300], 300), ([0, 0, 1], 0),
+        ([1, 1, 1], 1), ([0, 2, 1], 300), ([0, MOST, MOST], MOST), ([0, MOST, MOST - 1], MOST), ([0, MOST, MOST], MOST - 1),
+    ):
+        for tile in (0, 1, 2, 3, MOST):
+            ask_var(3, size, pieces.entries(offsets), tile)
+    for list_case in (ask, ask_var):
+        list_case(1, 1, pieces.entries([0]))
+        list_case(1, 0, pieces.entries([0]))
+    for list_case in (lambda n, data: ask(n, 300, data), lambda n, data: ask_var(n, 300, data), ask_sizes):
         for n in (0, MOST_TILES + 1, MOST):
             list_case(n, good)
         for n in (2, 4):

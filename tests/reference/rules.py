@@ -337,9 +337,24 @@ def offsets(n, size, data):
     return entries
 
 
-def extents(n, size, data):
-    entries = offsets(n, size, data)
+def var_offsets(n, size, data):
+    entries = check_list(n, data)
+    for i, x in enumerate(entries):
+        if x > size or (x != 0 if i == 0 else x < entries[i - 1]):
+            raise Refused(Refusal.TILE_OFFSETS, 8 + 8 * i)
+    return entries
+
+
+def between(entries, size):
     return [(a, z - a) for a, z in zip(entries, entries[1:] + [size])]
+
+
+def extents(n, size, data):
+    return between(offsets(n, size, data), size)
+
+
+def var_extents(n, size, data):
+    return between(var_offsets(n, size, data), size)
 
 
 def sizes(n, data):

@@ -29,6 +29,7 @@ extern "C" {
                          window_ends: *const u8, window_ends_length: usize, out: *mut u32, out_length: usize,
                          answer: *mut u64);
     fn tussockbell_offsets(tiles: u64, size: u64, list: *const u8, list_length: usize, answer: *mut u64);
+    fn tussockbell_var_offsets(tiles: u64, size: u64, list: *const u8, list_length: usize, answer: *mut u64);
     fn tussockbell_extent_at(tiles: u64, size: u64, list: *const u8, list_length: usize, tile: u64, answer: *mut u64);
     fn tussockbell_sizes(tiles: u64, list: *const u8, list_length: usize, answer: *mut u64);
     fn tussockbell_report(description: *const u8, description_length: usize, footer: *const u8, footer_length: usize,
@@ -124,6 +125,13 @@ pub(crate) fn offsets(tiles: u64, size: u64, list: &[u8]) -> [u64; OFFSETS_PLACE
     let mut answer = [0; OFFSETS_PLACES];
     // SAFETY: a slice's pointer and length, and an answer array of the header's places.
     unsafe { tussockbell_offsets(tiles, size, list.as_ptr(), list.len(), answer.as_mut_ptr()) };
+    answer
+}
+
+pub(crate) fn var_offsets(tiles: u64, size: u64, list: &[u8]) -> [u64; OFFSETS_PLACES] {
+    let mut answer = [0; OFFSETS_PLACES];
+    // SAFETY: a slice's pointer and length, and an answer array of the header's places.
+    unsafe { tussockbell_var_offsets(tiles, size, list.as_ptr(), list.len(), answer.as_mut_ptr()) };
     answer
 }
 

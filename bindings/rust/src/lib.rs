@@ -7,7 +7,7 @@
 //! - [`read_footer`] reads the footer of `__fragment_metadata.tdb`: every number of it.
 //! - [`open_tree`] opens a footer and an R-tree together and checks every box; the [`Tree`] answers windows.
 //! - [`query`] answers a window over a tree's plain bytes.
-//! - [`tile_offsets`] and [`tile_sizes`] read a field's lists.
+//! - [`tile_offsets`], [`var_tile_offsets`] and [`tile_sizes`] read a field's lists.
 //! - [`report`] writes the report of four files as text.
 //!
 //! Every function takes any input. Bad input is [`Refused`], with a number and a place, and a result buffer then holds
@@ -48,7 +48,7 @@ mod refused;
 mod tree;
 
 pub use footer::{read_footer, Footer};
-pub use lists::{tile_offsets, tile_sizes, Extent, TileOffsets};
+pub use lists::{tile_offsets, tile_sizes, var_tile_offsets, Extent, TileOffsets};
 pub use ranges::{Description, Kind, Range};
 pub use refused::{Refused, Which};
 pub use tree::{open_tree, query, Answer, Tree};

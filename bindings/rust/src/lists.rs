@@ -1,4 +1,4 @@
-//! Tile offsets and tile sizes.
+//! Tile offsets, var offsets and tile sizes.
 
 use crate::ffi;
 use crate::places::{EXTENT_LENGTH, EXTENT_OFFSET, OFFSETS_TILES, SIZES_SUM};
@@ -14,7 +14,7 @@ pub struct Extent {
     pub length: u64,
 }
 
-/// Accepted tile offsets: where each tile's bytes are. [`tile_offsets`] makes it.
+/// Accepted tile offsets: where each tile's bytes are. [`tile_offsets`] and [`var_tile_offsets`] make it.
 #[derive(Clone, Copy)]
 pub struct TileOffsets<'a> {
     tiles: u64,
@@ -39,6 +39,22 @@ pub struct TileOffsets<'a> {
 /// ```
 pub fn tile_offsets(tiles: u64, size: u64, list: &[u8]) -> Result<TileOffsets<'_>, Refused> {
     let answer = ffi::offsets(tiles, size, list);
+    Refused::check(&answer, Which::First)?;
+    Ok(TileOffsets { tiles: answer[OFFSETS_TILES], size, list })
+}
+
+/// Checks the var offsets of `tiles` tiles in a var data file of `size` bytes, of which a tile may have none.
+///
+/// ```
+/// use tussockbell::{tile_offsets, var_tile_offsets, Extent};
+///
+/// let list = [3u64, 0, 100, 300].map(u64::to_le_bytes).concat();
+/// assert_eq!(var_tile_offsets(3, 300, &list)?.get(2), Some(Extent { offset: 300, length: 0 }));
+/// assert!(tile_offsets(3, 300, &list).is_err());
+/// # Ok::<(), tussockbell::Refused>(())
+/// ```
+pub fn var_tile_offsets(tiles: u64, size: u64, list: &[u8]) -> Result<TileOffsets<'_>, Refused> {
+    let answer = ffi::var_offsets(tiles, size, list);
     Refused::check(&answer, Which::First)?;
     Ok(TileOffsets { tiles: answer[OFFSETS_TILES], size, list })
 }

@@ -21,7 +21,7 @@ rules_modules! {
 use cases::{Case, Chance};
 use right::right;
 use std::collections::BTreeSet;
-use tussockbell::{open_tree, query, read_footer, report, tile_offsets, tile_sizes};
+use tussockbell::{open_tree, query, read_footer, report, tile_offsets, tile_sizes, var_tile_offsets};
 use tussockbell::{Description, Footer, Kind, Range, Refused, Tree, Which};
 
 const SEED: u64 = 20_261_116;
@@ -141,10 +141,11 @@ fn ask(case: &Case, out: &mut Vec<u32>) -> Result<Vec<u64>, Refused> {
             assert_eq!(fit, out.len().min(found as usize));
             Ok(vec![0, 0, found, looked])
         }
-        Case::Offsets { tiles, size, list, tile } => {
-            let offsets = tile_offsets(*tiles, *size, list)?;
+        Case::Offsets { var, tiles, size, list, tile } => {
+            let offsets = if *var { var_tile_offsets } else { tile_offsets }(*tiles, *size, list)?;
             let extents: Vec<_> = offsets.iter().map(|e| (e.offset, e.length)).collect();
-            assert!((0..*tiles).map(|i| rules::extent(*tiles, *size, list, i)).eq(extents.iter().copied()));
+            let checked = if *var { rules::var_offsets } else { rules::offsets }(*tiles, *size, list);
+            assert!((0..*tiles).map(|i| rules::extent(&checked, *size, i)).eq(extents.iter().copied()));
             assert!(offsets.iter().len() == offsets.len() && !offsets.is_empty());
             let extent = offsets.get(small(*tile));
             assert_eq!(extent.is_some(), tile < tiles);

@@ -13,6 +13,7 @@ ghost use lib.ListN.{length, getD, take, drop};
 ghost use lib.Seq.{sets};
 ghost use Rattle.footer.specs.Answer.{checkedAnswer, footerAnswer, schemaName, tileCells, allCells};
 ghost use Rattle.lists.specs.Offsets.{offsetsAnswer, extentAt, extentAnswer};
+ghost use Rattle.lists.specs.VarOffsets.{varOffsetsAnswer, varExtentAnswer};
 ghost use Rattle.lists.specs.Sizes.{sizesAnswer};
 ghost use Rattle.rtree.specs.Opening.{openAnswer};
 ghost use Rattle.query.specs.Query.{queryAnswer, queryBuffer, Promises};
@@ -174,7 +175,31 @@ pub extern "C" fn tussockbell_extent(
     *answer = [r.offset, r.extent];
 }
 
-// The same with no check of the list.
+// Checks var offsets.
+#[no_mangle]
+pub extern "C" fn tussockbell_var_offsets(tiles: u64, size: u64, list: &[u8], answer: &mut [u64; 3])
+    ensures { λ _. ⌜ now (answer .exit) ≡ offsetsPlaces (varOffsetsAnswer tiles size (now (list .entry))) ⌝ }
+{
+    let r = lists::open_var_offsets(list, tiles, size);
+    *answer = [r.number, r.place, r.tiles];
+}
+
+// A tile's offset and extent in a list of var offsets, after the whole list is checked.
+#[no_mangle]
+pub extern "C" fn tussockbell_var_extent(
+    tiles: u64,
+    size: u64,
+    list: &[u8],
+    tile: u64,
+    answer: &mut [u64; 2],
+)
+    ensures { λ _. ⌜ now (answer .exit) ≡ extentPlaces (varExtentAnswer tiles size (now (list .entry)) tile) ⌝ }
+{
+    let r = lists::var_tile_extent(list, tiles, size, tile);
+    *answer = [r.offset, r.extent];
+}
+
+// The same with no check of the list, by either rule.
 #[no_mangle]
 pub extern "C" fn tussockbell_extent_at(
     tiles: u64,

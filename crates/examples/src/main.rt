@@ -10,6 +10,8 @@ use description::Dimension;
 use description::Kind;
 use libc::STDIN_FILENO;
 use libc::STDOUT_FILENO;
+use lists::Extent;
+use lists::TileOffsets;
 use query::Answer;
 use ranges::Range;
 ghost use Prim.Native.Nat.{_≤_, _<_};
@@ -71,6 +73,7 @@ fn answer(case: &[u8], a: &[u8], b: &[u8]) {
         5 => open_case(case, a, b),
         6 => query_case(case, a, b),
         7 => opened_case(case, a, b),
+        8 => var_offsets_case(case, a),
         _ => (),
     }
     io::write_all(STDOUT_FILENO, b"\n");
@@ -179,10 +182,22 @@ fn offsets_case(case: &[u8], bytes: &[u8]) {
     let size = order::u64_at(case, 80);
     let i = order::u64_at(case, 88);
     let r = lists::open_offsets(bytes, n, size);
+    offsets_answer(r, lists::tile_extent(bytes, n, size, i));
+}
+
+fn var_offsets_case(case: &[u8], bytes: &[u8]) {
+    let n = order::u64_at(case, 72);
+    let size = order::u64_at(case, 80);
+    let i = order::u64_at(case, 88);
+    let r = lists::open_var_offsets(bytes, n, size);
+    offsets_answer(r, lists::var_tile_extent(bytes, n, size, i));
+}
+
+// What a list of offsets answers, and one of its tiles.
+fn offsets_answer(r: TileOffsets, e: Extent) {
     number(r.number);
     number(r.place);
     number(r.tiles);
-    let e = lists::tile_extent(bytes, n, size, i);
     number(e.offset);
     number(e.extent);
 }

@@ -10,12 +10,17 @@ use native.Mathlib.Numerals.{add-one}
 use native.Mathlib.Decide.{decLt}
 use native.Mathlib.Omega.{arith}
 use lib.Dec.{ltb}
+use lib.ListN.{length}
 use borrow.Author.Tests.{lt-ltb, le-ltb, ltb-false, ne-eqb}
+use Rattle.answers.specs.Refusals.{refusal, bytes, tileOffsets}
 use Rattle.answers.specs.Runs.{over, sum}
+use Rattle.answers.specs.Checks.{check, each}
 use Rattle.answers.proofs.Runs.{over-snoc}
+use Rattle.answers.proofs.Checks.{past-check, stop-check, each-none, last}
 use Rattle.lists.specs.declared.Rule.{Rule}
-use Rattle.lists.specs.declared.Rule.the-variants.{Offsets, Sizes}
+use Rattle.lists.specs.declared.Rule.the-variants.{Offsets, VarOffsets, Sizes}
 use Rattle.lists.specs.Lists.{entry, listRefusal}
+use Rattle.lists.specs.VarOffsets.{varBreaks, startsRefusal}
 use Rattle.lists.specs.Code.Rules.{ruleBreaks, ruleNumber, carried, breaks, after, loopAnswer, entriesAnswer}
 use Rattle.lists.proofs.Header.{entries-decide}
 
@@ -34,6 +39,7 @@ room most total x h = go (decLt (most - total) x)
 -- ---- each rule
 pub number-some : (rule : Rule) → 0 < ruleNumber rule
 number-some (Offsets S) = omega arith
+number-some (VarOffsets S) = omega arith
 number-some Sizes = omega arith
 
 pub test-is : (rule : Rule) (g : ℕ → ℕ) (i : ℕ) → ruleBreaks rule g i ≡ breaks rule (8 + 8 * i) (carried rule g i) (g i)
@@ -41,22 +47,40 @@ test-is (Offsets S) g zero = refl
 test-is (Offsets S) g (suc i) =
     let e : suc i - 1 ≡ i = omega arith in
     rw (ne-eqb (suc i) 0 (λ z. omega arith), ne-eqb (8 + 8 * suc i) 8 (λ z. omega arith), e)
+test-is (VarOffsets S) g zero = refl
+test-is (VarOffsets S) g (suc i) =
+    let e : suc i - 1 ≡ i = omega arith in
+    rw (ne-eqb (suc i) 0 (λ z. omega arith), ne-eqb (8 + 8 * suc i) 8 (λ z. omega arith), e)
 test-is Sizes g i = ap (ltb (2 ^ 64 - 1)) (sum-next g i)
 
 pub carried-none : (rule : Rule) (g : ℕ → ℕ) → 0 ≡ carried rule g 0
 unfolding over
 carried-none (Offsets S) g = refl
+carried-none (VarOffsets S) g = refl
 carried-none Sizes g = refl
 
 pub carried-next : (rule : Rule) (g : ℕ → ℕ) (i : ℕ) → carried rule g (i + 1) ≡ after rule (carried rule g i) (g i)
 carried-next (Offsets S) g i = rw (add-one i)
+carried-next (VarOffsets S) g i = rw (add-one i)
 carried-next Sizes g i = sum-next g i
 
 pub after-fits : (rule : Rule) (at last x : ℕ) → x < 2 ^ 64 → breaks rule at last x ≡ false → after rule last x < 2 ^ 64
 after-fits (Offsets S) at last x small e = small
+after-fits (VarOffsets S) at last x small e = small
 after-fits Sizes at last x small e = omega (arith, ltb-false (2 ^ 64 - 1) (last + x) e)
 
 -- ---- the whole check, where the header is sound
 pub entries-answered : (rule : Rule) (n : ℕ) (s : List ℕ) → listRefusal n 8 s .number ≡ 0
     → loopAnswer rule (entry s) n ≡ entriesAnswer rule n s
 entries-answered rule n s sound = rw (entries-decide (ruleBreaks rule (entry s)) (ruleNumber rule) n s sound)
+
+-- ---- starts, where the bytes are as many as they need, and where they aren't
+module _ (n size : ℕ) (s : List ℕ) where
+  pub starts-short : length s < 8 + 8 * n → startsRefusal n size s ≡ refusal bytes (length s)
+  unfolding startsRefusal
+  starts-short h = stop-check _ _ _ _ (lt-ltb (length s) (8 + 8 * n) h) (omega arith)
+
+  pub starts-decide : 8 + 8 * n ≤ length s
+      → startsRefusal n size s ≡ each (λ i. check (varBreaks size (entry s) i) tileOffsets (8 + 8 * i)) 0 n
+  unfolding startsRefusal
+  starts-decide h = past-check _ _ _ _ (le-ltb (length s) (8 + 8 * n) h) ∙ last _ (each-none _ 0 n)

@@ -9,6 +9,7 @@ use Rattle.answers.specs.Checks.{first}
 use Rattle.order.specs.Little.{little}
 use Rattle.lists.specs.Lists.{listRefusal, entriesRefusal}
 use Rattle.lists.specs.Offsets.{offsetsRefusal, offsetsAnswer, offsetOf, extentOf, extentAnswer}
+use Rattle.lists.specs.VarOffsets.{varOffsetsRefusal, varOffsetsAnswer, varExtentAnswer}
 use Rattle.lists.specs.Sizes.{sizesRefusal, sizesAnswer}
 
 bytesOf : ℕ → ℕ → List ℕ
@@ -31,6 +32,29 @@ accepted = refl
 last-extent : extentAnswer 3 300 (three 0 100 250) 2 ≡ record { offset = 250; extent = 50 }
 unfolding bytesOf three little over first listRefusal entriesRefusal offsetsRefusal offsetOf extentOf
 last-extent = refl
+
+-- as var offsets the same list is accepted, and its last tile has no bytes
+var-accepted : varOffsetsAnswer 3 300 (three 0 100 300) ≡ record { number = 0; place = 0; tiles = 3 }
+unfolding bytesOf three little over first listRefusal entriesRefusal varOffsetsRefusal
+var-accepted = refl
+
+var-last-empty : varExtentAnswer 3 300 (three 0 100 300) 2 ≡ record { offset = 300; extent = 0 }
+unfolding bytesOf three little over first listRefusal entriesRefusal varOffsetsRefusal offsetOf extentOf
+var-last-empty = refl
+
+-- S may be 0
+var-no-bytes : varOffsetsAnswer 3 0 (three 0 0 0) ≡ record { number = 0; place = 0; tiles = 3 }
+unfolding bytesOf three little over first listRefusal entriesRefusal varOffsetsRefusal
+var-no-bytes = refl
+
+-- one that falls, and one above S
+var-falls : varOffsetsAnswer 3 300 (three 0 100 99) ≡ record { number = 18; place = 24; tiles = 0 }
+unfolding bytesOf three little over first listRefusal entriesRefusal varOffsetsRefusal
+var-falls = refl
+
+var-above-size : varOffsetsAnswer 3 300 (three 0 301 301) ≡ record { number = 18; place = 16; tiles = 0 }
+unfolding bytesOf three little over first listRefusal entriesRefusal varOffsetsRefusal
+var-above-size = refl
 
 -- 2^64 - 1 is accepted, and one more is 20 at the start of the entry that does it
 full : sizesAnswer 3 (three (2 ^ 64 - 2) 1 0) ≡ record { number = 0; place = 0; sum = 2 ^ 64 - 1 }

@@ -5,7 +5,7 @@
 use mathlib.Core.Path.{_≡_, refl, sym, ap, _∙_}
 use mathlib.Core.Bool.{Bool, true, false, not, _||_, true≢false}
 use mathlib.Core.List.{List, [], _∷_}
-use Prim.Native.Nat.{ℕ, _+_, _*_, _≤_}
+use Prim.Native.Nat.{ℕ, _+_, _*_, _≤_, _<_}
 use native.Mathlib.Omega.{arith}
 use lib.Dec.{ltb, eqb}
 use lib.ListN.{length}
@@ -13,7 +13,8 @@ use borrow.Author.Tests.{ltb-false, eqb-true, not-false}
 use Rattle.answers.specs.Refusals.{bytes, tiles, count}
 use Rattle.answers.specs.Checks.{check, each}
 use Rattle.answers.specs.declared.Refusal.{Refusal}
-use Rattle.answers.proofs.Checks.{past, stop, clear, past-check, check-clear, each-none, last, joined, joined-first}
+use Rattle.answers.proofs.Runs.{Each}
+use Rattle.answers.proofs.Checks.{past, stop, clear, past-check, check-clear, each-none, each-clear, last, joined, joined-first}
 use Rattle.description.specs.Limits.{leastTiles, mostTiles, outside}
 use Rattle.order.specs.Little.{little}
 use Rattle.lists.specs.Lists.{listRefusal, entriesRefusal}
@@ -66,3 +67,14 @@ module _ (breaks : ℕ → Bool) (number n : ℕ) (s : List ℕ) where
       → entriesRefusal breaks number n s ≡ each (λ i. check (breaks i) number (8 + 8 * i)) 0 n
   unfolding entriesRefusal
   entries-decide h = past _ _ h ∙ last _ (each-none _ 0 n)
+
+  -- of a list that is accepted
+  pub header-sound : entriesRefusal breaks number n s .number ≡ 0 → listRefusal n 8 s .number ≡ 0
+  unfolding entriesRefusal
+  header-sound accepted = clear _ _ accepted .0
+
+  pub entries-sound : 0 < number → entriesRefusal breaks number n s .number ≡ 0 → Each (λ i. breaks i ≡ false) 0 n
+  unfolding entriesRefusal
+  entries-sound some accepted i a b =
+      let each-one = each-clear _ 0 n (clear _ _ (clear _ _ accepted .1) .0) in
+      check-clear (breaks i) number (8 + 8 * i) some (each-one i a b)

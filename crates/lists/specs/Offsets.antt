@@ -20,10 +20,11 @@ unfoldable pub offsetsRefusal : ℕ → ℕ → List ℕ → Refusal
 offsetsRefusal n S s = entriesRefusal (offsetBreaks S (entry s)) tileOffsets n s
 
 -- "An accepted list answers n": a refusal has 0 there
+abbrev pub answered : ℕ → Refusal → TileOffsets
+answered n r = record { number = r .number; place = r .place; tiles = cond (eqb (r .number) 0) n 0 }
+
 abbrev pub offsetsAnswer : ℕ → ℕ → List ℕ → TileOffsets
-offsetsAnswer n S s =
-    let r = offsetsRefusal n S s in
-    record { number = r .number; place = r .place; tiles = cond (eqb (r .number) 0) n 0 }
+offsetsAnswer n S s = answered n (offsetsRefusal n S s)
 
 -- "Tile i's extent runs to the next offset, the last one's to S"
 abbrev pub endOf : ℕ → ℕ → List ℕ → ℕ → ℕ
@@ -41,13 +42,19 @@ abbrev pub extentAt : ℕ → ℕ → List ℕ → ℕ → Extent
 extentAt n S s i = record { offset = offsetOf n s i; extent = extentOf n S s i }
 
 -- "both 0 where the list is refused or i isn't below n"
-abbrev pub extentAnswer : ℕ → ℕ → List ℕ → ℕ → Extent
-extentAnswer n S s i =
-    cond (eqb (offsetsRefusal n S s .number) 0) (extentAt n S s i) (record { offset = 0; extent = 0 })
+abbrev pub asked : Refusal → Extent → Extent
+asked r e = cond (eqb (r .number) 0) e (record { offset = 0; extent = 0 })
 
--- "all extents add up to S"; none is empty; each tile's bytes end where the next one's start, and the last one's at S
-pub record Extents (n S : ℕ) (s : List ℕ) : Type 0 where
+abbrev pub extentAnswer : ℕ → ℕ → List ℕ → ℕ → Extent
+extentAnswer n S s i = asked (offsetsRefusal n S s) (extentAt n S s i)
+
+-- "all extents add up to S": each tile's bytes end where the next one's start, and the last one's at S
+pub record EndToEnd (n S : ℕ) (s : List ℕ) : Type 0 where
   pub total : sum (extentOf n S s) 0 n ≡ S
-  pub some : (i : ℕ) → i < n → 0 < extentOf n S s i
   pub next : (i : ℕ) → i + 1 < n → offsetOf n s i + extentOf n S s i ≡ offsetOf n s (i + 1)
   pub last : offsetOf n s (n - 1) + extentOf n S s (n - 1) ≡ S
+
+-- and none is empty
+pub record Extents (n S : ℕ) (s : List ℕ) : Type 0 where
+  pub run : EndToEnd n S s
+  pub some : (i : ℕ) → i < n → 0 < extentOf n S s i

@@ -1,4 +1,4 @@
-// Tile offsets and tile sizes: checking a list, a tile's offset and extent, the sum of the sizes.
+// Tile offsets, var offsets and tile sizes: checking a list, a tile's offset and extent, the sum of the sizes.
 use answers::Refusal;
 use description::Description;
 ghost use mathlib.Core.Path.{_≡_};
@@ -6,7 +6,8 @@ ghost use Prim.Native.Nat.{_+_, _-_, _*_, _^_, _≤_, _<_};
 ghost use lib.ListN.{length};
 ghost use Rattle.order.specs.Little.{little};
 ghost use Rattle.lists.specs.Lists.{entry, listRefusal};
-ghost use Rattle.lists.specs.Offsets.{offsetsAnswer, endOf, extentAt, extentAnswer, Extents};
+ghost use Rattle.lists.specs.Offsets.{answered, offsetsAnswer, endOf, extentAt, extentAnswer, EndToEnd, Extents};
+ghost use Rattle.lists.specs.VarOffsets.{varOffsetsAnswer, varExtentAnswer, startsRefusal};
 ghost use Rattle.lists.specs.Sizes.{sizesAnswer};
 ghost use Rattle.lists.specs.Code.Rules.{ruleNumber, breaks, after, outcome, loopAnswer, entriesAnswer};
 
@@ -35,13 +36,9 @@ pub fn open_offsets(body: &[u8], tiles: u64, size: u64) -> TileOffsets
     ensures answer { λ r. ⌜ r ≡ offsetsAnswer tiles size (now (body .entry)) ⌝ }
     ensures extents { λ r. ⌜ (r .number ≡ 0 → Extents tiles size (now (body .entry))) ⌝ }
 {
-    let list = check_entries(body, tiles, Rule::Offsets(size));
-    let number = list.number;
-    TileOffsets {
-        number,
-        place: list.place,
-        tiles: if number == 0 { tiles } else { 0 },
-    }
+    let header = check_list(body, tiles, 8);
+    let list = check_entries(body, tiles, header, Rule::Offsets(size));
+    answered(list, tiles)
 }
 
 // Tile i's offset and extent, after the whole list is checked: a refused one answers 0 tiles, and has no tile i.
@@ -52,7 +49,25 @@ pub fn tile_extent(body: &[u8], tiles: u64, size: u64, i: u64) -> Extent
     extent_at(body, list.tiles, size, i)
 }
 
-// The same with no check of the list, for one that is known to be accepted.
+// Var offsets of a data file of `size` bytes, S, where a tile may have no bytes.
+pub fn open_var_offsets(body: &[u8], tiles: u64, size: u64) -> TileOffsets
+    ensures answer { λ r. ⌜ r ≡ varOffsetsAnswer tiles size (now (body .entry)) ⌝ }
+    ensures extents { λ r. ⌜ (r .number ≡ 0 → EndToEnd tiles size (now (body .entry))) ⌝ }
+{
+    let header = check_list(body, tiles, 8);
+    let list = check_entries(body, tiles, header, Rule::VarOffsets(size));
+    answered(list, tiles)
+}
+
+// Tile i's offset and extent in a list of var offsets, after the whole list is checked.
+pub fn var_tile_extent(body: &[u8], tiles: u64, size: u64, i: u64) -> Extent
+    ensures { λ r. ⌜ r ≡ varExtentAnswer tiles size (now (body .entry)) i ⌝ }
+{
+    let checked = open_var_offsets(body, tiles, size);
+    extent_at(body, checked.tiles, size, i)
+}
+
+// The same with no check of the list, for one that is known to be accepted, of either kind.
 pub fn extent_at(body: &[u8], tiles: u64, size: u64, i: u64) -> Extent
     ensures { λ r. ⌜ r ≡ extentAt tiles size (now (body .entry)) i ⌝ }
 {
@@ -68,11 +83,27 @@ pub fn extent_at(body: &[u8], tiles: u64, size: u64, i: u64) -> Extent
     Extent { offset, extent }
 }
 
+// The starts of `tiles` values in a buffer of `size` bytes, from byte 8 of the body on, whatever stands around them.
+pub fn check_starts(body: &[u8], tiles: u64, size: u64) -> Refusal
+    ensures { λ r. ⌜ r ≡ startsRefusal tiles size (now (body .entry)) ⌝ }
+{
+    let length = body.len() as u64;
+    let words = length / 8;
+    if words <= tiles {
+        return Refusal::new(Refusal::BYTES, length);
+    }
+    match scan(body, tiles as usize, Rule::VarOffsets(size)) {
+        Scanned::Bad(at) => Refusal::new(Refusal::TILE_OFFSETS, at as u64),
+        Scanned::Whole(_) => Refusal::none(),
+    }
+}
+
 // Tile sizes: their sum, or the entry that takes it past 2^64 - 1.
 pub fn open_sizes(body: &[u8], tiles: u64) -> TileSizes
     ensures { λ r. ⌜ r ≡ sizesAnswer tiles (now (body .entry)) ⌝ }
 {
-    let list = check_entries(body, tiles, Rule::Sizes);
+    let header = check_list(body, tiles, 8);
+    let list = check_entries(body, tiles, header, Rule::Sizes);
     TileSizes {
         number: list.number,
         place: list.place,
@@ -96,10 +127,23 @@ pub fn check_list(body: &[u8], tiles: u64, width: u32) -> Refusal
     few.or(other_count).or(other_length)
 }
 
-// What the entries of a list keep to. Offsets: the first is 0, each later one above the one before, all below S. Sizes:
-// their sum fits.
+// An accepted list answers n.
+fn answered(list: Checked, tiles: u64) -> TileOffsets
+    ensures { λ r. ⌜ r ≡ answered tiles (record { number = list .number; place = list .place }) ⌝ }
+{
+    let number = list.number;
+    TileOffsets {
+        number,
+        place: list.place,
+        tiles: if number == 0 { tiles } else { 0 },
+    }
+}
+
+// What the entries of a list keep to. Offsets: the first is 0, each later one above the one before, all below S. Var
+// offsets: the first is 0, none below the one before, none above S. Sizes: their sum fits.
 enum Rule {
     Offsets(u64),
+    VarOffsets(u64),
     Sizes,
 }
 
@@ -111,10 +155,12 @@ struct Checked {
     value: u64,
 }
 
-fn check_entries(body: &[u8], tiles: u64, rule: Rule) -> Checked
+// The entries, after the list's header. The header's check stands apart, in each caller: this function is then small
+// enough that the compiler makes a copy of it, and so of the loop, for each rule.
+fn check_entries(body: &[u8], tiles: u64, header: Refusal, rule: Rule) -> Checked
+    requires { ⌜ header ≡ listRefusal tiles 8 (now body) ⌝ }
     ensures { λ r. ⌜ r ≡ entriesAnswer rule tiles (now (body .entry)) ⌝ }
 {
-    let header = check_list(body, tiles, 8);
     let number = header.number;
     if number != 0 {
         return Checked {
@@ -171,6 +217,7 @@ fn number_of(rule: Rule) -> u64
 {
     match rule {
         Rule::Offsets(_) => Refusal::TILE_OFFSETS,
+        Rule::VarOffsets(_) => Refusal::TILE_OFFSETS,
         Rule::Sizes => Refusal::SIZES_SUM,
     }
 }
@@ -189,6 +236,13 @@ fn breaks(rule: Rule, at: usize, carried: u64, x: u64) -> bool
         } else {
             x <= carried
         },
+        Rule::VarOffsets(size) => if size < x {
+            true
+        } else if at == 8 {
+            0 < x
+        } else {
+            x < carried
+        },
         Rule::Sizes => 0xFFFF_FFFF_FFFF_FFFF - carried < x,
     }
 }
@@ -199,6 +253,7 @@ fn after(rule: Rule, carried: u64, x: u64) -> u64
 {
     match rule {
         Rule::Offsets(_) => x,
+        Rule::VarOffsets(_) => x,
         Rule::Sizes => carried + x,
     }
 }

@@ -7,7 +7,7 @@ pub enum Case {
     Footer { d: Description, file_size: u64, footer: Vec<u8>, tile: u64 },
     Open { d: Description, file_size: u64, footer: Vec<u8>, tree: Vec<u8> },
     Query { d: Description, tiles: u64, tree: Vec<u8>, kinds: Vec<u8>, ends: Vec<u8>, room: usize },
-    Offsets { tiles: u64, size: u64, list: Vec<u8>, tile: u64 },
+    Offsets { var: bool, tiles: u64, size: u64, list: Vec<u8>, tile: u64 },
     Sizes { tiles: u64, list: Vec<u8> },
     Report { description: Vec<u8>, footer: Vec<u8>, tree: Vec<u8>, offsets: Vec<u8>, room: usize },
 }
@@ -286,6 +286,27 @@ fn list(c: &mut Chance, sum: bool) -> (u64, u64, Vec<u8>) {
     (n, size, data)
 }
 
+/// Var offsets from few numbers, so that many are equal: all of them 0, or at S, which may be 0 or near 2^64. Some have an entry that falls or
+/// is S + 1.
+fn var_list(c: &mut Chance) -> (u64, u64, Vec<u8>) {
+    let n = if c.one_in(50) { c.of(&[0, limits::TILES.end() + 1, u64::MAX]) } else { 1 + c.below(20) };
+    let size = c.of(&[0, 1, 300, 300, u64::MAX - 1, u64::MAX]);
+    let middle = c.below(size.saturating_add(1).max(1));
+    let mut entries: Vec<u64> = (0..n.min(30)).map(|_| c.of(&[0, middle, size, size - size / 3])).collect();
+    entries.sort_unstable();
+    if let Some(first) = entries.first_mut() {
+        *first = 0;
+    }
+    if !entries.is_empty() && c.one_in(3) {
+        let at = c.below(entries.len() as u64) as usize;
+        entries[at] = c.of(&[size.wrapping_add(1), entries[at].wrapping_sub(1), middle, u64::MAX]);
+    }
+    let mut data = if c.one_in(40) { c.below(40) } else { n }.to_le_bytes().to_vec();
+    data.extend(entries.iter().flat_map(|x| x.to_le_bytes()));
+    damage_list(c, &mut data);
+    (n, size, data)
+}
+
 fn damage_list(c: &mut Chance, data: &mut Vec<u8>) {
     if c.one_in(8) {
         damage(c, data);
@@ -356,14 +377,16 @@ pub fn parts(case: &mut Case) -> Vec<&mut Vec<u8>> {
 }
 
 pub fn make(c: &mut Chance) -> Case {
-    let what = c.below(11);
+    let what = c.below(12);
     if what == 10 {
         return report(c);
     }
     if what >= 8 {
-        let (tiles, size, list) = list(c, what == 9);
+        let (tiles, size, list) = if what == 11 { var_list(c) } else { list(c, what == 9) };
         let tile = if c.one_in(10) { c.of(&[tiles, u64::MAX]) } else { c.below(tiles.clamp(1, 30)) };
-        return if what == 9 { Case::Sizes { tiles, list } } else { Case::Offsets { tiles, size, list, tile } };
+        // A list made for one rule is asked by the other one too.
+        let var = (what == 11) != c.one_in(8);
+        return if what == 9 { Case::Sizes { tiles, list } } else { Case::Offsets { var, tiles, size, list, tile } };
     }
     let d = description(c);
     let p = plain(&d);
@@ -406,6 +429,7 @@ pub enum Slip {
     Uncounted,
     LastExtent,
     LastFull,
+    NoEmptyTile,
 }
 
 /// What a library with this slip would answer, where the slip has a say in the case.
@@ -422,12 +446,15 @@ pub fn wrong(case: &Case, slip: Slip) -> Option<(Vec<u64>, Vec<u32>)> {
             out[..fits].copy_from_slice(&found[..fits]);
             Some((vec![0, 0, found.len() as u64, looked], out))
         }
-        (Case::Offsets { tiles, size, list, tile }, Slip::LastExtent) => {
-            rules::offsets(*tiles, *size, list).ok()?;
-            let (offset, extent) = rules::extent(*tiles, *size, list, *tile);
+        (Case::Offsets { var: false, tiles, size, list, tile }, Slip::LastExtent) => {
+            let (offset, extent) = rules::extent(&Ok(rules::offsets(*tiles, *size, list).ok()?), *size, *tile);
             let next = rules::number(list, 8 + 8 * (*tile as usize).saturating_add(1).min(1 << 20), 8);
             let extent = if *tile < *tiles { next.wrapping_sub(offset) } else { extent };
             Some((vec![0, 0, *tiles, offset, extent], vec![]))
+        }
+        (Case::Offsets { var: true, tiles, size, list, tile }, Slip::NoEmptyTile) => {
+            let (tiles, size, list, tile) = (*tiles, *size, list.clone(), *tile);
+            Some(crate::right(&Case::Offsets { var: false, tiles, size, list, tile }))
         }
         (Case::Footer { d, file_size, footer, tile }, Slip::LastFull) => {
             let f = rules::footer(d, *file_size, footer).ok()?;

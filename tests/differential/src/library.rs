@@ -18,6 +18,8 @@ extern "C" {
     );
     fn tussockbell_offsets(tiles: u64, size: u64, l: *const u8, ll: usize, answer: *mut u64);
     fn tussockbell_extent(tiles: u64, size: u64, l: *const u8, ll: usize, tile: u64, answer: *mut u64);
+    fn tussockbell_var_offsets(tiles: u64, size: u64, l: *const u8, ll: usize, answer: *mut u64);
+    fn tussockbell_var_extent(tiles: u64, size: u64, l: *const u8, ll: usize, tile: u64, answer: *mut u64);
     fn tussockbell_extent_at(tiles: u64, size: u64, l: *const u8, ll: usize, tile: u64, answer: *mut u64);
     fn tussockbell_sizes(tiles: u64, l: *const u8, ll: usize, answer: *mut u64);
     fn tussockbell_report(
@@ -75,12 +77,17 @@ pub fn ask(case: &Case, mut space: Option<&mut Space>) -> (Vec<u64>, Vec<u32>) {
                 (answer, std::slice::from_raw_parts(out, *room).to_vec())
             }
         }
-        Case::Offsets { tiles, size, list, tile } => {
+        Case::Offsets { var, tiles, size, list, tile } => {
             let l = lend(list, &mut space);
             let (mut answer, mut extent, mut again) = (vec![u64::MAX; 3], [u64::MAX; 2], [u64::MAX; 2]);
             unsafe {
-                tussockbell_offsets(*tiles, *size, l, list.len(), answer.as_mut_ptr());
-                tussockbell_extent(*tiles, *size, l, list.len(), *tile, extent.as_mut_ptr());
+                if *var {
+                    tussockbell_var_offsets(*tiles, *size, l, list.len(), answer.as_mut_ptr());
+                    tussockbell_var_extent(*tiles, *size, l, list.len(), *tile, extent.as_mut_ptr());
+                } else {
+                    tussockbell_offsets(*tiles, *size, l, list.len(), answer.as_mut_ptr());
+                    tussockbell_extent(*tiles, *size, l, list.len(), *tile, extent.as_mut_ptr());
+                }
                 tussockbell_extent_at(*tiles, *size, l, list.len(), *tile, again.as_mut_ptr());
             }
             assert!(answer[0] != 0 || extent == again, "the two requests for a tile of an accepted list differ");

@@ -24,13 +24,15 @@ fn slips(seed: u64) {
     let uncounted = |case: &Case| cases::wrong(case, cases::Slip::Uncounted);
     let last_extent = |case: &Case| cases::wrong(case, cases::Slip::LastExtent);
     let last_full = |case: &Case| cases::wrong(case, cases::Slip::LastFull);
-    let all: [(&str, &dyn Fn(&Case) -> Option<(Vec<u64>, Vec<u32>)>); 6] = [
+    let no_empty_tile = |case: &Case| cases::wrong(case, cases::Slip::NoEmptyTile);
+    let all: [(&str, &dyn Fn(&Case) -> Option<(Vec<u64>, Vec<u32>)>); 7] = [
         ("strict comparison", &strict),
         ("int32 compared as unsigned", &unsigned),
         ("full rows only", &full_rows),
         ("a look not counted inside the window", &uncounted),
         ("the last extent as the next offset", &last_extent),
         ("the last tile as full", &last_full),
+        ("var offsets as those of tiles of fixed size", &no_empty_tile),
     ];
     for (name, wrong) in all {
         let caught = (0..200_000).any(|i| {
@@ -39,7 +41,7 @@ fn slips(seed: u64) {
         });
         assert!(caught, "the slip was not caught: {name}");
     }
-    println!("differential: 6 slips are caught");
+    println!("differential: {} slips are caught", all.len());
 }
 
 /// What was compared.

@@ -32,12 +32,13 @@ pub fn right(case: &Case) -> (Vec<u64>, Vec<u32>) {
                 Err(r) => (refused(&r, 2), out),
             }
         }
-        Case::Offsets { tiles, size, list, tile } => {
-            let mut answer = match rules::offsets(*tiles, *size, list) {
+        Case::Offsets { var, tiles, size, list, tile } => {
+            let checked = if *var { rules::var_offsets } else { rules::offsets }(*tiles, *size, list);
+            let mut answer = match &checked {
                 Ok(_) => vec![0, 0, *tiles],
-                Err(r) => refused(&r, 1),
+                Err(r) => refused(r, 1),
             };
-            let (offset, extent) = rules::extent(*tiles, *size, list, *tile);
+            let (offset, extent) = rules::extent(&checked, *size, *tile);
             answer.extend([offset, extent]);
             (answer, vec![])
         }

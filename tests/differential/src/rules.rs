@@ -431,9 +431,22 @@ pub fn offsets(n: u64, size: u64, data: &[u8]) -> Answer<Vec<u64>> {
     Ok(list)
 }
 
-pub fn extent(n: u64, size: u64, data: &[u8], tile: u64) -> (u64, u64) {
-    match offsets(n, size, data) {
-        Ok(list) if tile < n => {
+/// Offsets of tiles that may have no bytes.
+pub fn var_offsets(n: u64, size: u64, data: &[u8]) -> Answer<Vec<u64>> {
+    let list = entries(n, data)?;
+    for (i, x) in list.iter().enumerate() {
+        let in_order = if i == 0 { *x == 0 } else { *x >= list[i - 1] };
+        if !in_order || *x > size {
+            return refuse(refusal::TILE_OFFSETS, 8 + 8 * i);
+        }
+    }
+    Ok(list)
+}
+
+/// A tile's offset and extent in a list that was checked, by either rule.
+pub fn extent(checked: &Answer<Vec<u64>>, size: u64, tile: u64) -> (u64, u64) {
+    match checked {
+        Ok(list) if tile < list.len() as u64 => {
             let i = tile as usize;
             (list[i], list.get(i + 1).copied().unwrap_or(size) - list[i])
         }

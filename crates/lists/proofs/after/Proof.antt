@@ -5,10 +5,19 @@ use Rattle.lists.proofs.after.Statement.{statement}
 use Rattle.lists.proofs.after.Tie as tie
 
 add-result : tie.Need-add-result
-add-result c = omega (arith, rw (c .enum-told2 .given .1) at (c .before .before .pre))
+add-result c = omega (arith, rw (c .enum-told3 .given .1) at (c .before .before .pre))
 
-returns-2 : tie.Need-returns-2
-returns-2 c = rw (c .enum-told2 .given .1)
+returns-3 : tie.Need-returns-3
+returns-3 c = rw (c .enum-told3 .given .1)
 
 pub after-spec : {M : Type 1} → statement M
-after-spec = tie.close (tie.spec (λ c. search needs) (λ c. search needs) add-result (λ c. search needs) returns-2)
+after-spec =
+    tie.close
+    (tie.spec
+    (λ c. search needs)
+    (λ c. search needs)
+    (λ c. search needs)
+    add-result
+    (λ c. search needs)
+    (λ c. search needs)
+    returns-3)

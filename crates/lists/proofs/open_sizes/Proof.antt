@@ -9,4 +9,4 @@ unfolding sizesRefusal
 returns c = rw (c .check-entries .ensures)
 
 pub open-sizes-spec : {M : Type 1} → statement M
-open-sizes-spec = tie.close (tie.spec (λ c κs. search needs) returns)
+open-sizes-spec = tie.close (tie.spec (λ c κs. search needs) (λ c κs. search needs) returns)

@@ -1,9 +1,10 @@
--- `lists::tile_extent` meets its contract: what `extent_at` answers for as many tiles as the check does. Assumes nothing.
+-- `lists::tile_extent` meets its contract: what `extent_at` answers for as many tiles as the check does. Assumes
+-- nothing.
 use mathlib.Core.Path.{_≡_, ap, _∙_}
 use borrow.Author.Needs.{needs}
 use Rattle.lists.specs.declared.TileOffsets.{TileOffsets}
-use Rattle.lists.specs.Offsets.{extentAt}
-use Rattle.lists.proofs.Extents.{asked}
+use Rattle.lists.specs.Offsets.{offsetsRefusal, extentAt}
+use Rattle.lists.proofs.Extents.{asked-with}
 use Rattle.lists.proofs.tile_extent.Statement.{statement}
 use Rattle.lists.proofs.tile_extent.Tie as tie
 
@@ -14,7 +15,7 @@ returns c =
     let e : c .extent-at .result ≡ extentAt (list .result .tiles) (a .size) (a .body .now) (a .i) = c .extent-at .ensures in
     e
     ∙ ap (λ (r : TileOffsets). extentAt (r .tiles) (a .size) (a .body .now) (a .i)) (list .ensures .0)
-    ∙ asked (a .tiles) (a .size) (a .body .now) (a .i)
+    ∙ asked-with (a .tiles) (a .size) (a .body .now) (a .i) (offsetsRefusal (a .tiles) (a .size) (a .body .now))
 
 pub tile-extent-spec : {M : Type 1} → statement M
 tile-extent-spec = tie.close (tie.spec (λ c κs. search needs) (λ c κs. search needs) returns)

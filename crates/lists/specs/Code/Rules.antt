@@ -9,37 +9,44 @@ use Rattle.answers.specs.Runs.{sum}
 use Rattle.answers.specs.Checks.{check, each}
 use Rattle.answers.specs.declared.Refusal.{Refusal}
 use Rattle.lists.specs.declared.Rule.{Rule}
-use Rattle.lists.specs.declared.Rule.the-variants.{Offsets, Sizes}
+use Rattle.lists.specs.declared.Rule.the-variants.{Offsets, VarOffsets, Sizes}
 use Rattle.lists.specs.declared.Scanned.{Scanned}
 use Rattle.lists.specs.declared.Scanned.the-variants.{Whole, Bad}
 use Rattle.lists.specs.declared.Checked.{Checked}
 use Rattle.lists.specs.Lists.{entry, entriesRefusal}
 use Rattle.lists.specs.Offsets.{offsetBreaks}
+use Rattle.lists.specs.VarOffsets.{varBreaks}
 use Rattle.lists.specs.Sizes.{sizeBreaks}
 
 -- the definition of each rule, and the refusal that a broken one is
 abbrev pub ruleBreaks : Rule → (ℕ → ℕ) → ℕ → Bool
 ruleBreaks (Offsets S) = offsetBreaks S
+ruleBreaks (VarOffsets S) = varBreaks S
 ruleBreaks Sizes = sizeBreaks
 
 abbrev pub ruleNumber : Rule → ℕ
 ruleNumber (Offsets S) = tileOffsets
+ruleNumber (VarOffsets S) = tileOffsets
 ruleNumber Sizes = sizesSum
 
 -- what comes to entry i: the offset before it, if there is one; the sum of the sizes before it
 abbrev pub carried : Rule → (ℕ → ℕ) → ℕ → ℕ
 carried (Offsets S) g zero = 0
 carried (Offsets S) g (suc i) = g i
+carried (VarOffsets S) g zero = 0
+carried (VarOffsets S) g (suc i) = g i
 carried Sizes g i = sum g 0 i
 
 -- whether an entry x that starts at a place breaks the rule, with what came to it; the first entry starts at 8
 abbrev pub breaks : Rule → ℕ → ℕ → ℕ → Bool
 breaks (Offsets S) at last x = cond (eqb at 8) (not (eqb x 0)) (leb x last) || leb S x
+breaks (VarOffsets S) at last x = cond (eqb at 8) (not (eqb x 0)) (ltb x last) || ltb S x
 breaks Sizes at total x = ltb (2 ^ 64 - 1) (total + x)
 
 -- what goes on to the next entry
 abbrev pub after : Rule → ℕ → ℕ → ℕ
 after (Offsets S) last x = x
+after (VarOffsets S) last x = x
 after Sizes total x = total + x
 
 -- What an outcome of the loop says: no refusal and what was carried past the last entry; the rule's number at the

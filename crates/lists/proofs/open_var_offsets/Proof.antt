@@ -1,0 +1,20 @@
+-- `lists::open_var_offsets` meets its contract: the check's refusal, with n where there is none; and what holds of the
+-- extents of an accepted list. Assumes nothing.
+use mathlib.Core.Path.{_≡_}
+use borrow.Author.Needs.{needs}
+use Rattle.lists.specs.Offsets.{answered}
+use Rattle.lists.specs.VarOffsets.{varOffsetsRefusal}
+use Rattle.lists.proofs.Extents.{var-extents, accepted}
+use Rattle.lists.proofs.open_var_offsets.Statement.{statement}
+use Rattle.lists.proofs.open_var_offsets.Tie as tie
+
+returns : tie.Need-returns
+unfolding varOffsetsRefusal
+returns c =
+    let a = c .before .before .before .before .args in
+    let refused = varOffsetsRefusal (a .tiles) (a .size) (a .body .now) in
+    let e : c .answered .result ≡ answered (a .tiles) refused = rw (c .before .check-entries .ensures) at (c .answered .ensures) in
+    (e, λ z. var-extents _ _ _ (accepted (a .tiles) refused e z))
+
+pub open-var-offsets-spec : {M : Type 1} → statement M
+open-var-offsets-spec = tie.close (tie.spec (λ c κs. search needs) (λ c κs. search needs) (λ c κs. search needs) returns)
