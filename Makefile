@@ -19,13 +19,20 @@ report:
 	@rt check report > build/report.log 2>&1 || { cat build/report.log; exit 1; }
 	@target/bin/report '$(DESCRIPTION)' '$(FOOTER)' '$(TREE)' '$(OFFSETS)'
 
+# The crates that export C functions. Each is an object of its own, in which only the exported names are seen.
+EXPORTS := c_api
+
 # Made anew where a file that the proofs or the code rest on is newer; what the prover says goes to build/lib.log.
 lib: build/libtussockbell.so
 
-build/libtussockbell.a: crates.txt $(shell find crates -name '*.rt' -o -name '*.antt')
-	@mkdir -p build
-	@rt staticlib c_api > build/lib.log 2>&1 || { cat build/lib.log; exit 1; }
-	@cp target/staticlib/libc_api.a $@
+build/libtussockbell.a: crates.txt Makefile $(shell find crates -name '*.rt' -o -name '*.antt')
+	@mkdir -p build/objects
+	@rm -f build/objects/* $@
+	@for crate in $(EXPORTS); do \
+	    rt staticlib $$crate > build/lib.log 2>&1 || { cat build/lib.log; exit 1; }; \
+	    (cd build/objects && ar x ../../target/staticlib/lib$$crate.a) || exit 1; \
+	done
+	@ar rcs $@ build/objects/*.o
 
 build/libtussockbell.so: build/libtussockbell.a
 	@gcc -shared -o $@ -Wl,--whole-archive $< -Wl,--no-whole-archive

@@ -1,13 +1,7 @@
 // The library's operations as exported functions on numbers and slices. include/tussockbell.h declares them for C.
 use boxes::Side;
-use boxes::Window;
-use description::Description;
-use description::Dimension;
-use description::Kind;
 use footer::Footer;
-use ranges::Range;
 ghost use mathlib.Core.Path.{_≡_};
-ghost use mathlib.Core.Bool.{_&&_, cond};
 ghost use Prim.Native.Nat.{_+_, _≤_};
 ghost use lib.ListN.{length, getD, take, drop};
 ghost use lib.Seq.{sets};
@@ -19,8 +13,8 @@ ghost use Rattle.rtree.specs.Opening.{openAnswer};
 ghost use Rattle.query.specs.Query.{queryAnswer, queryBuffer, Promises};
 ghost use Rattle.decimal.specs.Write.{put};
 ghost use Rattle.report_text.specs.Text.{reportText};
-ghost use Rattle.c_api.specs.Described.{isKindAt, allKinds, numberedDimensions, describe};
-ghost use Rattle.c_api.specs.Windows.{otherSide, windowOfBytes};
+ghost use Rattle.c_arguments.specs.Described.{describe};
+ghost use Rattle.c_arguments.specs.Windows.{windowOfBytes};
 ghost use Rattle.c_api.specs.Places.{numberPlaces, rangePlaces, domainPlaces, footerPlaces, namePlaces};
 ghost use Rattle.c_api.specs.Places.{openedPlaces, answerPlaces, offsetsPlaces, sizesPlaces, extentPlaces};
 
@@ -37,7 +31,7 @@ pub extern "C" fn tussockbell_footer(
     ensures { λ _. ⌜ now (answer .exit) ≡ footerPlaces (footerAnswer
         (describe (now (kinds .entry)) fields capacity) «file_size» (now (footer .entry))) ⌝ }
 {
-    let d = describe(kinds, fields, capacity);
+    let d = c_arguments::describe(kinds, fields, capacity);
     let f = footer::open(d, file_size, footer);
     put_footer(answer, f);
 }
@@ -57,9 +51,9 @@ pub extern "C" fn tussockbell_schema_name(
     ensures name { λ _. ⌜ take (getD (now (answer .exit)) 1 0) (drop (getD (now (answer .exit)) 0 0) (now (footer .entry)))
         ≡ schemaName (describe (now (kinds .entry)) fields capacity) «file_size» (now (footer .entry)) ⌝ }
 {
-    let d = describe(kinds, fields, capacity);
+    let d = c_arguments::describe(kinds, fields, capacity);
     let r = footer::check(d, file_size, footer);
-    let start = or_zero(r.number == 0, 12);
+    let start = c_arguments::or_zero(r.number == 0, 12);
     *answer = [start, r.name_size];
 }
 
@@ -76,7 +70,7 @@ pub extern "C" fn tussockbell_cells(
     ensures { λ r. ⌜ r ≡ tileCells
         (describe (now (kinds .entry)) fields capacity) «file_size» (now (footer .entry)) tile ⌝ }
 {
-    let d = describe(kinds, fields, capacity);
+    let d = c_arguments::describe(kinds, fields, capacity);
     footer::tile_cells(d, file_size, footer, tile)
 }
 
@@ -91,7 +85,7 @@ pub extern "C" fn tussockbell_total_cells(
 ) -> u64
     ensures { λ r. ⌜ r ≡ allCells (describe (now (kinds .entry)) fields capacity) «file_size» (now (footer .entry)) ⌝ }
 {
-    let d = describe(kinds, fields, capacity);
+    let d = c_arguments::describe(kinds, fields, capacity);
     footer::total_cells(d, file_size, footer)
 }
 
@@ -109,7 +103,7 @@ pub extern "C" fn tussockbell_open(
     ensures { λ _. ⌜ now (answer .exit) ≡ openedPlaces (openAnswer
         (describe (now (kinds .entry)) fields capacity) «file_size» (now (footer .entry)) (now (tree .entry))) ⌝ }
 {
-    let d = describe(kinds, fields, capacity);
+    let d = c_arguments::describe(kinds, fields, capacity);
     let r = opening::open(d, file_size, footer, tree);
     *answer = [r.number, r.place, r.which, r.tiles, r.fanout, r.levels];
 }
@@ -145,8 +139,8 @@ pub extern "C" fn tussockbell_query(
         (now («window_kinds» .entry)) (now («window_ends» .entry))))
         (now (out .entry)) (now (out .exit)) ⌝ }
 {
-    let d = describe(kinds, fields, capacity);
-    let w = window_of(d, window_kinds, window_ends);
+    let d = c_arguments::describe(kinds, fields, capacity);
+    let w = c_arguments::window_of(d, window_kinds, window_ends);
     let r = query::query(d, tiles, tree, w, out);
     *answer = [r.number, r.place, r.found, r.looked];
 }
@@ -321,108 +315,4 @@ fn range_places(side: Side) -> [u64; 3]
     let range = side.range;
     let ends = range.patterns();
     [range.kind().datatype(), ends.low, ends.high]
-}
-
-// The description of numbers.
-fn describe(kinds: &[u8], fields: u64, capacity: u64) -> Description
-    ensures { λ r. ⌜ r ≡ describe (now (kinds .entry)) fields capacity ⌝ }
-{
-    let dims = dimensions_of(kinds);
-    let count = or_zero(all_kinds(kinds), kinds.len() as u64);
-    Description {
-        dimensions: count,
-        kinds: dims,
-        fields: fields,
-        capacity: capacity,
-    }
-}
-
-fn or_zero(test: bool, x: u64) -> u64
-    ensures { λ r. ⌜ r ≡ cond test x 0 ⌝ }
-{
-    if test { x } else { 0 }
-}
-
-fn dimensions_of(numbers: &[u8]) -> [Dimension; 4]
-    ensures { λ r. ⌜ r ≡ numberedDimensions (now (numbers .entry)) ⌝ }
-{
-    let a = Kind::of(number_at(numbers, 0));
-    let b = Kind::of(number_at(numbers, 1));
-    let c = Kind::of(number_at(numbers, 2));
-    let d = Kind::of(number_at(numbers, 3));
-    [
-        Dimension { kind: a },
-        Dimension { kind: b },
-        Dimension { kind: c },
-        Dimension { kind: d },
-    ]
-}
-
-fn all_kinds(numbers: &[u8]) -> bool
-    ensures { λ r. ⌜ r ≡ allKinds (now (numbers .entry)) ⌝ }
-{
-    let a = is_kind_at(numbers, 0);
-    let b = is_kind_at(numbers, 1);
-    let c = is_kind_at(numbers, 2);
-    let d = is_kind_at(numbers, 3);
-    both(a, both(b, both(c, d)))
-}
-
-fn both(a: bool, b: bool) -> bool
-    ensures { λ r. ⌜ r ≡ (a && b) ⌝ }
-{
-    if a { b } else { false }
-}
-
-// Is number i some kind's?
-fn is_kind_at(numbers: &[u8], i: usize) -> bool
-    ensures { λ r. ⌜ r ≡ isKindAt (now (numbers .entry)) i ⌝ }
-{
-    let number = number_at(numbers, i);
-    number == Kind::of(number).datatype()
-}
-
-fn number_at(numbers: &[u8], i: usize) -> u64
-    ensures { λ r. ⌜ r ≡ getD (now (numbers .entry)) i 0 ⌝ }
-{
-    if i < numbers.len() {
-        numbers[i] as u64
-    } else {
-        0
-    }
-}
-
-fn window_of(description: Description, numbers: &[u8], ends: &[u8]) -> Window
-    ensures { λ r. ⌜ r ≡ windowOfBytes description (now (numbers .entry)) (now (ends .entry)) ⌝ }
-{
-    let dims = dimensions_of(numbers);
-    let count = numbers.len() as u64;
-    let read = boxes::read_box(ends, dims, count);
-    let kinds = description.kinds;
-    let a = side_or_other(numbers, 0, read[0], kinds[0]);
-    let b = side_or_other(numbers, 1, read[1], kinds[1]);
-    let c = side_or_other(numbers, 2, read[2], kinds[2]);
-    let d = side_or_other(numbers, 3, read[3], kinds[3]);
-    Window {
-        dimensions: count,
-        sides: [a, b, c, d],
-    }
-}
-
-// The side as read, or one of another kind than the description's where its number is no kind's.
-fn side_or_other(numbers: &[u8], i: usize, read: Side, described: Dimension) -> Side
-    ensures { λ r. ⌜ r ≡ cond (isKindAt (now (numbers .entry)) i) read (otherSide (described .kind)) ⌝ }
-{
-    if is_kind_at(numbers, i) {
-        return read;
-    }
-    let kind = described.kind;
-    if kind.datatype() == Kind::Int32.datatype() {
-        return Side {
-            range: Range::I64(0, 0),
-        };
-    }
-    Side {
-        range: Range::I32(0, 0),
-    }
 }

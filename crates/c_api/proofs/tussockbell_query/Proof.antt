@@ -1,6 +1,6 @@
 -- `c_api::tussockbell_query` meets its contract: the library's own answer, place by place, and its buffer. Assumes nothing.
 use borrow.Author.Needs.{needs}
-use Rattle.c_api.specs.Windows.{windowOfBytes}
+use Rattle.c_arguments.specs.Windows.{windowOfBytes}
 use Rattle.c_api.proofs.Answers.{asked}
 use Rattle.c_api.proofs.tussockbell_query.Statement.{statement}
 use Rattle.c_api.proofs.tussockbell_query.Tie as tie

@@ -1,9 +1,9 @@
--- `c_api::side_or_other` meets its contract: as read, or by the number of the kind. Assumes nothing.
+-- `c_arguments::side_or_other` meets its contract: as read, or by the number of the kind. Assumes nothing.
 use mathlib.Core.Path.{sym, _∙_}
 use borrow.Author.Needs.{needs}
 use borrow.Author.Tests.{eq-eqb, ne-eqb}
-use Rattle.c_api.proofs.side_or_other.Statement.{statement}
-use Rattle.c_api.proofs.side_or_other.Tie as tie
+use Rattle.c_arguments.proofs.side_or_other.Statement.{statement}
+use Rattle.c_arguments.proofs.side_or_other.Tie as tie
 
 returns : tie.Need-returns
 returns c = rw (sym (c .before .is-kind-at .ensures) ∙ c .if1 .taken)

@@ -1,9 +1,9 @@
--- `c_api::window_of` meets its contract: the sides in turn, over what is read. Assumes nothing.
+-- `c_arguments::window_of` meets its contract: the sides in turn, over what is read. Assumes nothing.
 use borrow.Author.Needs.{needs}
 use Rattle.answers.specs.Runs.{over}
-use Rattle.c_api.specs.Windows.{windowOfBytes}
-use Rattle.c_api.proofs.window_of.Statement.{statement}
-use Rattle.c_api.proofs.window_of.Tie as tie
+use Rattle.c_arguments.specs.Windows.{windowOfBytes}
+use Rattle.c_arguments.proofs.window_of.Statement.{statement}
+use Rattle.c_arguments.proofs.window_of.Tie as tie
 
 returns : tie.Need-returns
 unfolding windowOfBytes over

@@ -1,8 +1,8 @@
--- `c_api::all_kinds` meets its contract: the four in turn. Assumes nothing.
+-- `c_arguments::all_kinds` meets its contract: the four in turn. Assumes nothing.
 use borrow.Author.Needs.{needs}
-use Rattle.c_api.specs.Described.{allKinds}
-use Rattle.c_api.proofs.all_kinds.Statement.{statement}
-use Rattle.c_api.proofs.all_kinds.Tie as tie
+use Rattle.c_arguments.specs.Described.{allKinds}
+use Rattle.c_arguments.proofs.all_kinds.Statement.{statement}
+use Rattle.c_arguments.proofs.all_kinds.Tie as tie
 
 returns : tie.Need-returns
 unfolding allKinds

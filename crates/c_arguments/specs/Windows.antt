@@ -15,7 +15,7 @@ use Rattle.ranges.specs.declared.Range.the-variants.{I32}
 use Rattle.boxes.specs.declared.Side.{Side}
 use Rattle.boxes.specs.declared.Window.{Window}
 use Rattle.boxes.specs.Boxes.{noSide, rangeIn, boxOf}
-use Rattle.c_api.specs.Described.{isKindAt, numberedDimensions}
+use Rattle.c_arguments.specs.Described.{isKindAt, numberedDimensions}
 
 -- a side of another kind than this one
 abbrev pub otherSide : Kind → Side

@@ -1,7 +1,7 @@
--- `c_api::is_kind_at` meets its contract: the number is that of the kind it stands for. Assumes nothing.
+-- `c_arguments::is_kind_at` meets its contract: the number is that of the kind it stands for. Assumes nothing.
 use borrow.Author.Needs.{needs}
-use Rattle.c_api.proofs.is_kind_at.Statement.{statement}
-use Rattle.c_api.proofs.is_kind_at.Tie as tie
+use Rattle.c_arguments.proofs.is_kind_at.Statement.{statement}
+use Rattle.c_arguments.proofs.is_kind_at.Tie as tie
 
 returns : tie.Need-returns
 returns c = cc

@@ -1,10 +1,10 @@
--- `c_api::number_at` meets its contract: a byte fits a u64, and past the end the definition has 0 too. Assumes nothing.
+-- `c_arguments::number_at` meets its contract: a byte fits a u64, and past the end the definition has 0 too. Assumes nothing.
 use borrow.Author.Needs.{needs}
 use mathlib.Core.Path.{sym}
 use native.Mathlib.Omega.{arith}
 use lib.ListN.{List·getD-eq-default}
-use Rattle.c_api.proofs.number_at.Statement.{statement}
-use Rattle.c_api.proofs.number_at.Tie as tie
+use Rattle.c_arguments.proofs.number_at.Statement.{statement}
+use Rattle.c_arguments.proofs.number_at.Tie as tie
 
 cast-result : tie.Need-cast-result
 cast-result c = omega (arith, c .shared-slice-known .given (c .before .before .args .i))

@@ -1,9 +1,9 @@
--- `c_api::dimensions_of` meets its contract: the four in turn. Assumes nothing.
+-- `c_arguments::dimensions_of` meets its contract: the four in turn. Assumes nothing.
 use borrow.Author.Needs.{needs}
 use Rattle.answers.specs.Runs.{over}
-use Rattle.c_api.specs.Described.{numberedDimensions}
-use Rattle.c_api.proofs.dimensions_of.Statement.{statement}
-use Rattle.c_api.proofs.dimensions_of.Tie as tie
+use Rattle.c_arguments.specs.Described.{numberedDimensions}
+use Rattle.c_arguments.proofs.dimensions_of.Statement.{statement}
+use Rattle.c_arguments.proofs.dimensions_of.Tie as tie
 
 returns : tie.Need-returns
 unfolding numberedDimensions over
