@@ -2,6 +2,8 @@
 #   make report  run the report on a sample fragment, or on the files DESCRIPTION=.. FOOTER=.. TREE=.. OFFSETS=..
 #   make lib     build/libtussockbell.a and build/libtussockbell.so, for include/tussockbell.h
 #   make test    prove every crate, try the must-fail edits, run the programs and the other tests
+#   make test-large
+#                compare trees and lists of 16,777,216 tiles with the rules; takes 1 GB of memory
 #   make bench   measure the library beside plain Rust and two R-tree libraries; writes docs/BENCHMARKS.md
 SHELL := /bin/bash
 
@@ -11,7 +13,7 @@ FOOTER ?= $(SAMPLE)/footer
 TREE ?= $(SAMPLE)/tree
 OFFSETS ?= $(SAMPLE)/offsets
 
-.PHONY: report lib test bench
+.PHONY: report lib test test-large bench
 
 # The program is proved before it is linked; what the prover says goes to build/report.log.
 report:
@@ -39,6 +41,9 @@ build/libtussockbell.so: build/libtussockbell.a
 
 test:
 	@tests/run
+
+test-large:
+	@INPUTS=0 TILES=16777216 tests/differential/run
 
 bench:
 	@bench/run

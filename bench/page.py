@@ -67,6 +67,7 @@ def groups(ratios, pictured=False):
     by_fanout = {peer: [(peer, f"query, f = {f}", of(peer, "query", f"f={f}")) for f in FANOUTS] for peer in PEERS}
     by_kind = [("rust", f"query, {kind}", of("rust", "query", kind)) for kind in KINDS]
     made = by_fanout["rust"] + ([] if pictured else by_kind)
+    made += [] if pictured else [("rust", "query, up to 16,777,216 tiles", of("rust", "more tiles"))]
     made += [("rust", "opening", of("rust", "open")), ("rust", "lists", [*of("rust", "offsets"), *of("rust", "var offsets"), *of("rust", "sizes")])]
     for peer in ("boost", "libspatialindex"):
         made += [(peer, f"query, {size} windows", of(peer, "query", size)) for size in ("small", "large")]
@@ -87,7 +88,7 @@ def short(value):
 
 def table(header, rows):
     """Columns that hold numbers are set to the right."""
-    numbers = [all(row[i].replace(",", "").replace(".", "").isdigit() for row in rows) for i in range(len(header))]
+    numbers = [all(row[i].replace(",", "").replace(".", "").isdigit() or row[i] == "-" for row in rows) for i in range(len(header))]
     lines = [header, ["--:" if right else ":--" for right in numbers], *rows]
     return "\n".join("| " + " | ".join(line) + " |" for line in lines)
 
@@ -134,6 +135,29 @@ def grown(rows, by, per):
     each = [float(row[f"ours ns/{per}"]) for row in rows]
     times = max(numbers) / min(numbers)
     return f"while the number grows by a factor of {times:.0f}, a {per} costs the library {short(min(each))} to {short(max(each))} ns"
+
+
+def tiles_table(rows):
+    """Queries that find about the same number of tiles, by fanout and then by the number of tiles."""
+    header = ["f", "n", "Found", "Looked", "Ours", "a box", "Rust", "a box", "Boost", "M", "libsp.", "M", "/ Rust"]
+    made = []
+    for row in sorted(rows, key=lambda row: (int(row["f"]), int(row["n"]))):
+        cells = [f"{int(row['f']):,}", f"{int(row['n']):,}"]
+        cells += [short(row[column]) for column in ("found", "looked", "ours ns", "ours ns/box", "rust ns", "rust ns/box")]
+        for peer in ("boost", "libspatialindex"):
+            cells += [row[f"{peer} ns"] if row[f"{peer} ns"] == "-" else short(row[f"{peer} ns"]), row[f"{peer} capacity"]]
+        made.append([*cells, short(float(row["ours ns"]) / float(row["rust ns"]))])
+    return table(header, made)
+
+
+def with_tiles(rows):
+    """How a query's time grows with the number of tiles, at each fanout."""
+    said = []
+    for f in sorted({int(row["f"]) for row in rows}):
+        few, *_, many = sorted((row for row in rows if int(row["f"]) == f), key=lambda row: int(row["n"]))
+        more = [float(many[column]) / float(few[column]) for column in ("n", "looked", "ours ns")]
+        said.append(f"at f = {f:,} with {more[0]:,.0f} times the tiles it looks at {short(more[1])} times the boxes and takes {short(more[2])} times as long")
+    return "; ".join(said)
 
 
 def summary(ratios):
@@ -189,9 +213,16 @@ def page(tables, ratios):
           rising order. The R-tree libraries query structures that were built beforehand, take windows that were made beforehand, and list
           tiles in any order; neither building nor sorting is in their times.
         """)
+    most = f"{max(65_536, *(int(row['n']) for row in tables['tiles'])):,}"
     growth = prose(f"""
         Int32 and float64, D = 2, f = 16. First windows from 1 / 65,536 of the square to all of it, over 65,536 tiles:
-        {grown(tables["looks"], "looked", "box")}. Then opening trees of 1,024 to 65,536 tiles: {grown(tables["bytes"], "bytes", "byte")}.
+        {grown(tables["looks"], "looked", "box")}. Then opening trees of 1,024 to {most} tiles: {grown(tables["bytes"], "bytes", "byte")}.
+        """)
+    tiles = prose(f"""
+        Int32 and float64, D = 2, {run["small windows"]} windows of 4 / n of the square, so that a query finds about as many tiles however many
+        there are; here the curve is cut into n runs of one length, and a tile is around 8 hits in its run. What such a query costs goes by the
+        levels of the tree, and by what of it the processor's caches hold: {with_tiles(tables["tiles"])}. Above 1,000,000 tiles Boost is built
+        with nodes of 16 boxes alone, and libspatialindex, which has an object for each box, is left out.
         """)
     sections = [
         "# Benchmarks",
@@ -207,6 +238,9 @@ def page(tables, ratios):
         growth,
         pair_table({"looked": "Looked"}, tables["looks"], "box"),
         pair_table({"bytes": "Bytes"}, tables["bytes"], "byte"),
+        "## More tiles",
+        tiles,
+        tiles_table(tables["tiles"]),
         "## Window queries",
         prose("Found and looked are means a query; times are a query's, and what that is for a box looked at. M is the node capacity."),
         query_table(tables, ratios),

@@ -50,6 +50,24 @@ pub fn leaves(dimensions: usize, tiles: usize) -> Vec<Cells> {
     hits.chunks(HITS).map(|tile| (0..dimensions).map(|i| around(tile, i)).collect()).collect()
 }
 
+/// As many tiles as are wanted, in two dimensions, without sorting: the curve is cut into `tiles` runs of one length, and each tile is around
+/// hits in its own run.
+pub fn even_leaves(tiles: usize) -> Vec<Cells> {
+    let mut chance = Chance(tiles as u64);
+    let place = |code: u64, first: u32| -> u64 { (0..BITS).map(|bit| (code >> (2 * bit + first) & 1) << bit).sum() };
+    let whole = 1u128 << (2 * BITS);
+    let start = |tile: usize| (tile as u128 * whole / tiles as u128) as u64;
+    let tile = |i: usize| -> Cells {
+        let hits: Vec<u64> = (0..HITS).map(|_| start(i) + chance.below(start(i + 1) - start(i))).collect();
+        let around = |first: u32| {
+            let places = || hits.iter().map(|code| centred(place(*code, first)));
+            (places().min().unwrap(), places().max().unwrap())
+        };
+        vec![around(1), around(0)]
+    };
+    (0..tiles).map(tile).collect()
+}
+
 /// Windows that each cover about `part` of the detector.
 pub fn windows(dimensions: usize, part: f64, number: usize) -> Vec<Cells> {
     let mut chance = Chance(77 + dimensions as u64);

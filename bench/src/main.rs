@@ -1,9 +1,9 @@
 //! Measures the compiled library beside plain Rust and two R-tree libraries, on the same bytes and windows, in one run. Answers are compared
 //! before anything is timed. A measure is the median of rounds, in each of which all contenders run one after the other.
 //!
-//!     bench [KIND] [ROUNDS]
+//!     bench [KIND] [ROUNDS] [TILES]
 //!
-//! KIND is how the kinds that are measured begin, ROUNDS is for a quick look. Prints tab-parted tables, each with a header, and at the end
+//! KIND is how the kinds that are measured begin, ROUNDS and TILES, the most tiles, are for a quick look. Prints tab-parted tables, each with a header, and at the end
 //! `ratio`, case, and ours / theirs, where below 1 is faster.
 
 mod data;
@@ -19,6 +19,12 @@ use std::time::{Duration, Instant};
 
 const FANOUTS: [usize; 4] = [2, 10, 16, 1024];
 const TILES: [usize; 2] = [1_000, 65_536];
+/// From few tiles to as many as there may be, for queries that find about the same number in each.
+const GROWING_TILES: [usize; 4] = [1_000, 65_536, 1_000_000, 16_777_216];
+const GROWING_FANOUTS: [usize; 3] = [2, 16, 1024];
+/// Past these libspatialindex, which has an object for each box, takes too much memory, and Boost is built at one capacity.
+const MOST_FOR_PEERS: usize = 1_000_000;
+const BOOST_PAST: [usize; 1] = [16];
 const MIX: [Kind; 4] = [Kind::Float64, Kind::Int32, Kind::Float32, Kind::Int64];
 /// So many small windows that their branches can't be learnt by heart.
 const SMALL: usize = 1024;
@@ -26,7 +32,7 @@ const LARGE: usize = 32;
 const LEAST: Duration = Duration::from_micros(600);
 const TRIALS: usize = 3;
 
-const TABLES: [(&str, &str); 6] = [
+const TABLES: [(&str, &str); 7] = [
     ("run", "rounds\tleast us\ttrials\tsmall windows\tlarge windows\tboost capacities\tlibspatialindex capacities"),
     (
         "query",
@@ -36,6 +42,10 @@ const TABLES: [(&str, &str); 6] = [
     ("open", "kind\tD\tf\tn\tbytes\tours ns\tours ns/byte\trust ns\trust ns/byte"),
     ("list", "list\tn\tours ns\tours ns/entry\trust ns\trust ns/entry"),
     ("looks", "looked\tours ns\tours ns/box\trust ns\trust ns/box"),
+    (
+        "tiles",
+        "f\tn\tfound\tlooked\tours ns\tours ns/box\trust ns\trust ns/box\tboost ns\tboost capacity\tlibspatialindex ns\tlibspatialindex capacity",
+    ),
     ("bytes", "bytes\tours ns\tours ns/byte\trust ns\trust ns/byte"),
 ];
 
@@ -162,6 +172,12 @@ impl Asked {
     }
 }
 
+/// Of those with a name, the one that took the least in a short trial, which tells at which of its node capacities a library is best.
+fn best<'a>(name: &str, peers: &'a [Peer], trial: &[f64]) -> Option<&'a Peer> {
+    let tried = peers.iter().zip(trial).filter(|(peer, _)| peer.name == name);
+    tried.min_by(|a, b| a.1.total_cmp(b.1)).map(|(peer, _)| peer)
+}
+
 /// A footer and a tree to open.
 struct Opened {
     kinds: Vec<u8>,
@@ -171,13 +187,16 @@ struct Opened {
 }
 
 impl Opened {
-    /// Both say the same of it.
     fn new(kinds: &[Kind], leaves: &[Cells], fanout: usize) -> Opened {
         let (file_size, footer) = data::footer(kinds, leaves.len());
-        let opened = Opened { kinds: lent(kinds), file_size, footer, tree: data::tree(kinds, leaves, fanout) };
-        let (tiles, f, levels) = opened.plain().unwrap();
-        assert_eq!(opened.ours(), [0, 0, 0, tiles, f, levels]);
-        opened
+        Opened { kinds: lent(kinds), file_size, footer, tree: data::tree(kinds, leaves, fanout) }.agreed()
+    }
+
+    /// Both say the same of it.
+    fn agreed(self) -> Opened {
+        let (tiles, f, levels) = self.plain().unwrap();
+        assert_eq!(self.ours(), [0, 0, 0, tiles, f, levels]);
+        self
     }
 
     fn ours(&self) -> [u64; 6] {
@@ -250,13 +269,8 @@ impl Bench {
         let peers = Peer::all(kinds, &data::numbers(kinds, leaves), &data::numbers(kinds, &windows));
         for (size, windows) in [("small", 0..SMALL), ("large", SMALL..SMALL + LARGE)] {
             let means = asked.agree(&windows, &peers);
-            // A short trial tells which of its node capacities a library is best at here.
             let trial = measure(peers.iter().map(|peer| asked.peer_run(peer, &windows)).collect(), TRIALS);
-            let best = |name: &str| {
-                let tried = peers.iter().zip(&trial).filter(|(peer, _)| peer.name == name);
-                tried.min_by(|a, b| a.1.total_cmp(b.1)).unwrap().0
-            };
-            let (boost, spatialindex) = (best("boost"), best("libspatialindex"));
+            let (boost, spatialindex) = ["boost", "libspatialindex"].map(|name| best(name, &peers, &trial).unwrap()).into();
             let theirs = [boost, spatialindex].map(|peer| asked.peer_run(peer, &windows));
             let all = (0..FANOUTS.len()).flat_map(|tree| asked.runs(tree, &windows)).chain(theirs).collect();
             let taken: Vec<f64> = measure(all, self.rounds).iter().map(|t| t / windows.len() as f64).collect();
@@ -318,6 +332,46 @@ impl Bench {
     }
 }
 
+impl Bench {
+    /// More tiles, and windows that find about as many of them as in a small tree; then opening a large one.
+    fn more_tiles(&mut self, n: usize) {
+        let kinds = [Kind::Int32, Kind::Float64];
+        let leaves = data::even_leaves(n);
+        let windows = data::windows(2, 4.0 / n as f64, SMALL);
+        let (boosts, spatialindexes): (&[usize], &[usize]) =
+            if n > MOST_FOR_PEERS { (&BOOST_PAST, &[]) } else { (&peers::BOOST, &peers::SPATIALINDEX) };
+        let peers = Peer::some(&kinds, &data::numbers(&kinds, &leaves), &data::numbers(&kinds, &windows), boosts, spatialindexes);
+        let mut asked = Asked::new(&kinds, &leaves, &windows, &GROWING_FANOUTS);
+        let all = asked.all();
+        let means = asked.agree(&all, &peers);
+        let trial = measure(peers.iter().map(|peer| asked.peer_run(peer, &all)).collect(), TRIALS);
+        let chosen = ["boost", "libspatialindex"].map(|name| best(name, &peers, &trial));
+        let theirs = chosen.iter().flatten().map(|peer| asked.peer_run(peer, &all));
+        let runs = (0..GROWING_FANOUTS.len()).flat_map(|tree| asked.runs(tree, &all)).chain(theirs).collect();
+        let taken: Vec<f64> = measure(runs, self.rounds).iter().map(|t| t / windows.len() as f64).collect();
+        let (on_trees, theirs) = taken.split_at(2 * GROWING_FANOUTS.len());
+        let mut theirs = theirs.iter();
+        let beside_them: Vec<String> = chosen
+            .iter()
+            .map(|peer| peer.map_or("-\t-".to_string(), |peer| format!("{:.1}\t{}", theirs.next().unwrap(), peer.capacity)))
+            .collect();
+        for ((f, (found, looked)), pair) in GROWING_FANOUTS.iter().zip(means).zip(on_trees.chunks(2)) {
+            self.rows.push(format!("tiles\t{f}\t{n}\t{found:.1}\t{looked:.1}\t{}\t{}", beside(pair, looked), beside_them.join("\t")));
+            self.ratio(format!("rust/more tiles/f={f}/n={n}"), pair[0], pair[1]);
+        }
+        drop(peers);
+        if TILES.contains(&n) {
+            return;
+        }
+        let (file_size, footer) = data::footer(&kinds, n);
+        let tree = asked.trees.swap_remove(1);
+        drop(asked);
+        let opened = Opened { kinds: lent(&kinds), file_size, footer, tree }.agreed();
+        let taken = measure(opened.runs().into(), self.rounds);
+        self.rows.push(format!("bytes\t{}\t{}", opened.bytes(), beside(&taken, opened.bytes() as f64)));
+    }
+}
+
 fn main() {
     let arguments: Vec<String> = std::env::args().skip(1).collect();
     let only = arguments.first().map_or("", String::as_str);
@@ -340,6 +394,11 @@ fn main() {
     }
     bench.list_cases();
     bench.growth();
+    let most = arguments.get(2).map_or(usize::MAX, |tiles| tiles.parse().expect("a number of tiles"));
+    for tiles in GROWING_TILES.into_iter().filter(|tiles| *tiles <= most) {
+        eprintln!("bench: n={tiles}");
+        bench.more_tiles(tiles);
+    }
     for (table, header) in TABLES {
         println!("{table}\t{header}");
         bench.rows.iter().filter(|row| row.split('\t').next() == Some(table)).for_each(|row| println!("{row}"));

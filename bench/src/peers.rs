@@ -99,8 +99,13 @@ pub struct Peer {
 }
 
 impl Peer {
-    /// Each library at each of its node capacities. Boost has the kind's own type, a mix has double.
+    /// Each library at each of its node capacities.
     pub fn all(kinds: &[Kind], boxes: &[f64], windows: &[f64]) -> Vec<Peer> {
+        Peer::some(kinds, boxes, windows, &BOOST, &SPATIALINDEX)
+    }
+
+    /// Each library at some node capacities. Boost has the kind's own type, a mix has double.
+    pub fn some(kinds: &[Kind], boxes: &[f64], windows: &[f64], boosts: &[usize], spatialindexes: &[usize]) -> Vec<Peer> {
         let d = kinds.len();
         let boost: Make = if kinds.iter().any(|kind| *kind != kinds[0]) {
             boost_make_float64
@@ -117,9 +122,9 @@ impl Peer {
             assert!(!tree.is_null());
             Peer { name, capacity, tree, query, free }
         };
-        let boosts = BOOST.map(|capacity| one("boost", capacity, boost, boost_query, boost_free));
-        let others = SPATIALINDEX.map(|capacity| one("libspatialindex", capacity, spatialindex_make, spatialindex_query, spatialindex_free));
-        boosts.into_iter().chain(others).collect()
+        let boosts = boosts.iter().map(|capacity| one("boost", *capacity, boost, boost_query, boost_free));
+        let others = spatialindexes.iter().map(|capacity| one("libspatialindex", *capacity, spatialindex_make, spatialindex_query, spatialindex_free));
+        boosts.chain(others).collect()
     }
 
     /// Writes the tiles found, in the library's own order; there is room for all.

@@ -19,7 +19,7 @@ mod limits {
     pub const CAPACITY: RangeInclusive<u64> = 1..=1_000_000_000;
     pub const VERSION: RangeInclusive<u32> = 16..=21;
     pub const NAME: RangeInclusive<u64> = 1..=255;
-    pub const TILES: RangeInclusive<u64> = 1..=65_536;
+    pub const TILES: RangeInclusive<u64> = 1..=16_777_216;
     pub const FANOUT: RangeInclusive<usize> = 2..=1_024;
 }
 
@@ -252,9 +252,12 @@ impl Description {
 struct Shape {
     fanout: usize,
     levels: usize,
-    counts: [usize; 17],
-    starts: [usize; 17],
+    counts: [usize; MOST_LEVELS],
+    starts: [usize; MOST_LEVELS],
 }
+
+/// Those of the most tiles at the least fanout.
+const MOST_LEVELS: usize = 25;
 
 fn shape(tiles: usize, width: usize, body: &[u8]) -> Result<Shape, Refused> {
     if body.len() < 8 {
@@ -264,7 +267,7 @@ fn shape(tiles: usize, width: usize, body: &[u8]) -> Result<Shape, Refused> {
     if !limits::FANOUT.contains(&fanout) {
         return refuse(refusal::FANOUT, 0);
     }
-    let mut shape = Shape { fanout, levels: 1, counts: [0; 17], starts: [0; 17] };
+    let mut shape = Shape { fanout, levels: 1, counts: [0; MOST_LEVELS], starts: [0; MOST_LEVELS] };
     let mut count = tiles;
     shape.counts[0] = count;
     while count > 1 {

@@ -238,6 +238,9 @@ _WIDTHS = {kind: struct.calcsize(one) for kind, one in _FORMATS.items()}
 _PAIRS = {kind: struct.Struct(one + one[1]).pack for kind, one in _FORMATS.items() if kind != _FLOAT32}
 # A result buffer is as many of these as it has places; a place is a uint32_t.
 _ONE_TILE = array("I", [0])
+# The room that a query is first asked with. One that finds more tiles is asked once more, with room for all of them, so that a
+# query costs what it finds, however many tiles there are.
+_FIRST_ROOM = 4096
 # Enough for the zero ends of a range of any kind.
 _NO_ENDS = bytes(16)
 
@@ -477,12 +480,19 @@ def _ask(
         kinds, ends = _window_bytes(kinds, sides)
     # Each box has 8 bytes at least, so there are never more tiles to find.
     most = min(tiles, tree[1] // 8)
-    places = most if room is None else min(max(operator.index(room), 0), most)
-    out, answer = _ONE_TILE * places, _QueryAnswer()
-    _c_query(*description._given, tiles, *tree, kinds, len(kinds), ends, len(ends), out.buffer_info()[0], places, answer)
-    _check(answer)
-    found = answer[_QUERY_FOUND]
-    return Hit(out[:found].tolist(), found, answer[_QUERY_LOOKED])
+    wanted = most if room is None else min(max(operator.index(room), 0), most)
+
+    def asked(places: int) -> tuple[array[int], int, int]:
+        out, answer = _ONE_TILE * places, _QueryAnswer()
+        _c_query(*description._given, tiles, *tree, kinds, len(kinds), ends, len(ends), out.buffer_info()[0], places, answer)
+        _check(answer)
+        return out, answer[_QUERY_FOUND], answer[_QUERY_LOOKED]
+
+    places = min(wanted, _FIRST_ROOM)
+    out, found, looked = asked(places)
+    if places < min(found, wanted):
+        out, found, looked = asked(min(found, wanted))
+    return Hit(out[:found].tolist(), found, looked)
 
 
 def query(

@@ -20,6 +20,7 @@ import tracemalloc
 import unittest
 from decimal import Decimal
 from fractions import Fraction
+from unittest import mock
 
 root = pathlib.Path(__file__).resolve().parents[2]
 sys.path.insert(0, str(root / "tests/reference"))
@@ -606,15 +607,53 @@ class Trees(unittest.TestCase):
         for room in (1.5, "2"):
             self.assertRaises(TypeError, tree.query, [(0, 24)], room=room)
 
-    def test_largest_tree(self):
-        n = 65536
-        wide = rules.Description(["int32"], 1, 32)
-        boxes = [[(i, i)] for i in range(n)]
-        foot, body = pieces.Footer(wide, [(0, n)], tiles=n), pieces.tree(["int32"], boxes, 1024)
-        tree = tb.open_tree(ONE, foot.file_size, foot.data(), body)
+    def test_many_tiles(self):
+        n = 65537
+        tree = self.line_of_tiles(n)
         self.assertEqual((tree.tiles, tree.fanout, tree.levels), (n, 1024, 3))
-        self.assertEqual(tree.query([(-1, n)]), tb.Hit(list(range(n)), n, 1 + 64 + n))
-        self.assertEqual(tree.query([(n - 1, n)]), tb.Hit([n - 1], 1, 1 + 64 + 1024))
+        self.assertEqual(tree.query([(-1, n)]), tb.Hit(list(range(n)), n, 1 + 65 + n))
+        self.assertEqual(tree.query([(n - 1, n)]), tb.Hit([n - 1], 1, 1 + 65 + 1))
+
+    def line_of_tiles(self, n):
+        """A tree of tiles from i to i."""
+        wide = rules.Description(["int32"], 1, 32)
+        foot, body = pieces.Footer(wide, [(0, n)], tiles=n), pieces.tree(["int32"], [[(i, i)] for i in range(n)], 1024)
+        return tb.open_tree(ONE, foot.file_size, foot.data(), body)
+
+    def test_limit(self):
+        """16,777,216 tiles are as many as there may be: one more is refused with 10, before anything of the tree is looked at."""
+        wide, most = rules.Description(["int32"], 1, 32), rules.LIMITS["tiles"][1]
+        self.assertEqual(most, 2**24)
+        for n, number in ((most, 14), (most + 1, 10)):
+            self.assertEqual(outcome(tb.query, ONE, n, SAMPLE["tree"], [(0, 24)])[1], number)
+            foot = pieces.Footer(wide, [(0, 24)], tiles=n)
+            self.assertEqual(outcome(tb.open_tree, ONE, foot.file_size, foot.data(), SAMPLE["tree"])[1], number)
+        for ask in (lambda n: tb.tile_offsets(n, 300, SAMPLE["offsets"]), lambda n: tb.tile_sizes(n, SAMPLE["offsets"])):
+            self.assertEqual([outcome(ask, n)[1] for n in (most, most + 1)], [17, 10])
+
+    def test_query_costs_what_it_finds(self):
+        """It is asked with little room, and once more only where it finds more than that."""
+        first, n = tb._FIRST_ROOM, 3 * tb._FIRST_ROOM
+        tree = self.line_of_tiles(n)
+        for found, room, rooms in (
+            (0, None, [first]), (1, None, [first]), (first, None, [first]), (first + 1, None, [first, first + 1]), (n, None, [first, n]),
+            (n, 0, [0]), (n, 7, [7]), (n, first, [first]), (n, first + 1, [first, first + 1]), (7, first + 1, [first]),
+            (first + 2, n, [first, first + 2]), (n, 10**30, [first, n]),
+        ):
+            with self.subTest(found=found, room=room), mock.patch.object(tb, "_c_query", wraps=tb._c_query) as asked:
+                hit = tree.query([(-1, found - 1)], room)
+                self.assertEqual((hit.tiles, hit.found), (list(range(found))[:room], found))
+                self.assertEqual([call.args[-2] for call in asked.mock_calls], rooms)
+        with mock.patch.object(tb, "_c_query", wraps=tb._c_query) as asked:
+            self.assertRaises(tb.Refused, tree.query, [(1, 0)])
+            self.assertEqual(asked.call_count, 1)
+
+    def test_small_query_takes_little_memory(self):
+        tree = self.line_of_tiles(16 * tb._FIRST_ROOM)
+        tracemalloc.start()
+        self.addCleanup(tracemalloc.stop)
+        self.assertEqual(tree.query([(5, 9)]).tiles, [5, 6, 7, 8, 9])
+        self.assertLess(tracemalloc.get_traced_memory()[1], 2**16)
 
     def test_offsets_are_a_sequence(self):
         offsets = tb.tile_offsets(3, SAMPLE_DATA_SIZE, SAMPLE["offsets"])
@@ -675,7 +714,8 @@ class Header(unittest.TestCase):
 
     def test_places(self):
         constants = {name[1:]: value for name, value in vars(tb).items() if re.fullmatch("_[A-Z0-9_]+", name)}
-        used = {name: value for name, value in constants.items() if isinstance(value, int) and name not in ("LARGEST", "NO_KIND")}
+        own = ("LARGEST", "NO_KIND", "FIRST_ROOM")
+        used = {name: value for name, value in constants.items() if isinstance(value, int) and name not in own}
         self.assertEqual(used, {name: self.defined.get(name) for name in used})
         self.assertGreater(len(used), 25)
         for name, place in {**tb._FOOTER_NUMBERS, **tb._FOOTER_LISTS}.items():

@@ -91,7 +91,11 @@ def footer_cases(cases):
         ask(two, worked.data(), worked.file_size, tile)
     full = [(-(2**31), 2**31 - 1)]
     ask_changed(one, full, tiles=1, last_cells=32)
-    ask_changed(one, zero, tiles=MOST_TILES)
+    # more tiles than there once might be
+    for tiles in (65_536, 65_537, MOST_TILES):
+        f = pieces.Footer(one, zero, tiles=tiles)
+        for tile in (0, tiles - 1, tiles):
+            ask(one, f.data(), f.file_size, tile)
     ask_changed(mixed, [(0, 24), (-1.5, float("inf")), (-(2**63), 2**63 - 1), (0.0, -0.0)])
     f = pieces.Footer(many, [(float("-inf"), 0.5)], name=b"\0" * 255)
     ask(many, f.data(), f.file_size, 2)
@@ -214,8 +218,9 @@ def list_cases(cases):
     for list_case in (lambda n, data: ask(n, 300, data), lambda n, data: ask_var(n, 300, data), ask_sizes):
         for n in (0, MOST_TILES + 1, MOST):
             list_case(n, good)
-        for n in (2, 4):
+        for n in (2, 4, 65_537, MOST_TILES):
             list_case(n, good)
+            list_case(n, u64(n) + good[8:])
         for data in (b"", good[:7], good[:8], good[:-1], good + b"\0", good[:8] + b"\0" * 8, pieces.entries([0, 1, 2], 2)):
             list_case(3, data)
     for sizes in ([1, 2, 3], [0, 0, 0], [MOST, 0, 0], [MOST, 0, 1], [MOST - 5, 5, 0], [MOST - 5, 6, 0], [1, MOST, MOST]):
@@ -327,8 +332,12 @@ def tree_cases(cases):
     for at in (8, 24, 48):
         for count in (0, 4, MOST, 2**32 + rules.number(tree_a, at, 8)):
             ask_both(tree_a[:at] + u64(count) + tree_a[at + 8 :])
-    for n in (1, 2, 4, 5, MOST_TILES):
+    for n in (1, 2, 4, 5, 65_536, 65_537, MOST_TILES):
         ask_both(tree_a, n)
+    # the right number of levels for so many tiles, and not their bytes
+    for n, f, level_number in ((65_536, 2, 17), (65_537, 2, 18), (65_537, 1024, 3), (MOST_TILES, 2, 25), (MOST_TILES, 3, 17), (MOST_TILES, 1024, 4)):
+        for stored in (level_number, level_number - 1):
+            ask_both(pieces.u32(f) + pieces.u32(stored) + tree_a[8:], n)
     for n in (0, MOST_TILES + 1, MOST):
         ask(one, n, tree_a, ["int32"], [(12, 21)])
     single = pieces.tree(["int32"], [[(3, 9)]], 7)

@@ -80,7 +80,7 @@ limits! {
     LEAST_CAPACITY MOST_CAPACITY "cells of a full tile" 1 1_000_000_000;
     LEAST_VERSION MOST_VERSION "that a footer's version may be" 16 21;
     LEAST_NAME MOST_NAME "bytes of the schema name" 1 255;
-    LEAST_TILES MOST_TILES "tiles" 1 65_536;
+    LEAST_TILES MOST_TILES "tiles" 1 16_777_216;
     LEAST_FANOUT MOST_FANOUT "that a tree's fanout may be" 2 1_024;
 }
 

@@ -11,7 +11,7 @@ use Rattle.boxes.specs.declared.Window.{Window}
 use Rattle.footer.specs.declared.Checked.{Checked}
 use Rattle.footer.specs.Fields.{start}
 use Rattle.footer.specs.Checks.{footerRefusal}
-use Rattle.footer.specs.Answer.{acceptedChecked, refusedChecked, checkedAnswer, schemaName}
+use Rattle.footer.specs.Answer.{acceptedChecked, refusedChecked, checkedAnswer, checkedAnswerBy, schemaName, schemaNameBy}
 use Rattle.query.specs.declared.Answer.{Answer}
 use Rattle.query.specs.Query.{queryAnswer, queryBuffer, Promises}
 use Rattle.query.proofs.Promised.{keeps}
@@ -30,7 +30,7 @@ asked {d} {n} {body} {before} described f p q e b =
 module _ (d : Description) (F : ℕ) (bytes : List ℕ) where
   name-part : take (checkedAnswer d F bytes .«name_size») (drop (cond (eqb (checkedAnswer d F bytes .number) 0) 12 0) bytes)
       ≡ schemaName d F bytes
-  unfolding schemaName checkedAnswer acceptedChecked refusedChecked start
+  unfolding schemaNameBy checkedAnswerBy acceptedChecked refusedChecked start
   name-part = go (eqb (footerRefusal d F bytes .number) 0) refl
     where
       go : (t : Bool) → t ≡ eqb (footerRefusal d F bytes .number) 0

@@ -4,3 +4,4 @@ pub mod Limits
 pub mod Sides
 pub mod Patterns
 pub mod Datatypes
+pub mod Rules

@@ -2,3 +2,4 @@
 pub mod Limits
 pub mod Kinds
 pub mod Description
+pub mod Rules

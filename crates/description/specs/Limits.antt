@@ -43,7 +43,7 @@ abbrev pub leastTiles : ℕ
 leastTiles = 1
 
 abbrev pub mostTiles : ℕ
-mostTiles = 65_536
+mostTiles = 16_777_216
 
 -- fanout f
 abbrev pub leastFanout : ℕ

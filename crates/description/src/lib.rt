@@ -90,7 +90,7 @@ impl Description {
 
     pub const LEAST_TILES: u64 = 1;
 
-    pub const MOST_TILES: u64 = 65_536;
+    pub const MOST_TILES: u64 = 16_777_216;
 
     pub const LEAST_FANOUT: u32 = 2;
 

@@ -18,16 +18,16 @@ use Rattle.description.specs.Description.{descriptionRefusal, sideStart, boxByt
 use Rattle.description.specs.Kinds.{key, isNan, atMost}
 use Rattle.ranges.specs.Ranges.{endsAt, endsOf, hasNan, isReversed, verdict, inside, meets}
 use Rattle.boxes.specs.Windows.{sideRefusal, windowRefusal}
-use Rattle.footer.specs.Answer.{totalCells, entries, refusedFooter, acceptedFooter, footerAnswer}
-use Rattle.footer.specs.Checks.{noFlag, flagSet, numberOutside, fileOffsetsRefusal, footerRefusal}
+use Rattle.footer.specs.Answer.{totalCells, entries, refusedFooter, acceptedFooter, footerAnswer, footerAnswerBy}
+use Rattle.footer.specs.Checks.{noFlag, flagSet, numberOutside, fileOffsetsRefusal, footerRefusalBy}
 use Rattle.footer.specs.Fields.{start, footerBytes}
-use Rattle.lists.specs.Lists.{listRefusal, entriesRefusal}
-use Rattle.lists.specs.Offsets.{offsetsRefusal}
+use Rattle.lists.specs.Lists.{listRefusalBy, entriesRefusalBy}
+use Rattle.lists.specs.Offsets.{offsetsRefusal, offsetsRefusalBy}
 use Rattle.order.specs.Key.{signedKey}
 use Rattle.order.specs.Little.{little, firstOfTwo, secondOfTwo}
 use Rattle.rtree.specs.Body.{frontRefusal, sizeRefusal, countsRefusal, shapeRefusal}
-use Rattle.rtree.specs.Opening.{rootRefusal, innerRefusal, levelRefusal, boxesRefusal, bodyRefusal, openAnswer}
-use Rattle.query.specs.Query.{askedRefusal, queryRefusal, meeting, queryAnswer, queryBuffer}
+use Rattle.rtree.specs.Opening.{rootRefusal, innerRefusal, levelRefusal, boxesRefusal, bodyRefusal, openAnswer, openAnswerBy}
+use Rattle.query.specs.Query.{askedRefusalBy, queryRefusalBy, meeting, queryAnswer, queryAnswerBy, queryBuffer, queryBufferBy}
 use Rattle.tree.specs.Shape.{up, boxes, children, heightAbove, height, levels, allBoxes, boxesAbove, levelStart, bodyBytes}
 use Rattle.tree.specs.Walk.{looked, found}
 
@@ -120,5 +120,5 @@ stated =
     ∷ []
 
 starred : worked ≡ stated
-unfolding first over boxOf rangesRefusal boxInside boxRefusal boxMeets descriptionRefusal sideStart boxBytes key isNan atMost endsAt endsOf hasNan isReversed verdict inside meets sideRefusal windowRefusal totalCells entries refusedFooter acceptedFooter footerAnswer noFlag flagSet numberOutside fileOffsetsRefusal footerRefusal start footerBytes listRefusal entriesRefusal offsetsRefusal signedKey little firstOfTwo secondOfTwo frontRefusal sizeRefusal countsRefusal shapeRefusal rootRefusal innerRefusal levelRefusal boxesRefusal bodyRefusal openAnswer askedRefusal queryRefusal meeting queryAnswer queryBuffer up boxes children heightAbove height levels allBoxes boxesAbove levelStart bodyBytes looked found le described footerOf box treeA window asked opened told sized worked stated
+unfolding first over boxOf rangesRefusal boxInside boxRefusal boxMeets descriptionRefusal sideStart boxBytes key isNan atMost endsAt endsOf hasNan isReversed verdict inside meets sideRefusal windowRefusal totalCells entries refusedFooter acceptedFooter footerAnswerBy noFlag flagSet numberOutside fileOffsetsRefusal footerRefusalBy start footerBytes listRefusalBy entriesRefusalBy offsetsRefusalBy signedKey little firstOfTwo secondOfTwo frontRefusal sizeRefusal countsRefusal shapeRefusal rootRefusal innerRefusal levelRefusal boxesRefusal bodyRefusal openAnswerBy askedRefusalBy queryRefusalBy meeting queryAnswerBy queryBufferBy up boxes children heightAbove height levels allBoxes boxesAbove levelStart bodyBytes looked found le described footerOf box treeA window asked opened told sized worked stated
 starred = refl

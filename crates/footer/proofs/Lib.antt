@@ -3,3 +3,4 @@ pub mod Domain
 pub mod Fields
 pub mod Parts
 pub mod Passed
+pub mod Rules

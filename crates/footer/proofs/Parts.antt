@@ -18,13 +18,13 @@ use Rattle.description.specs.Limits.{leastTiles, mostTiles}
 use Rattle.description.specs.Description.{sidesOf, boxBytes}
 use Rattle.boxes.specs.Boxes.{rangesRefusal}
 use Rattle.footer.specs.Fields.{start, footerBytes}
-use Rattle.footer.specs.Checks.{noFlag, flagSet, numberOutside, fileOffsetsRefusal, wrongBytes, headChecks, sizeChecks, fieldChecks, footerRefusal}
+use Rattle.footer.specs.Checks.{noFlag, flagSet, numberOutside, fileOffsetsRefusal, wrongBytes, headChecks, sizeChecks, fieldChecks, footerRefusal, footerRefusalBy}
 use Rattle.footer.proofs.Fields.{null-domain-next, domain-next, length-last, after}
 
 module _ (d : Description) (F : ℕ) (footer : List ℕ) where
   pub footer-parts : footerRefusal d F footer
       ≡ otherwise (first (headChecks d footer)) (otherwise (first (sizeChecks d footer F)) (first (fieldChecks d footer F)))
-  unfolding footerRefusal
+  unfolding footerRefusalBy
   footer-parts =
       first-append (headChecks d footer) (sizeChecks d footer F ++ fieldChecks d footer F)
       ∙ rw (first-append (sizeChecks d footer F) (fieldChecks d footer F))

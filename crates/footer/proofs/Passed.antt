@@ -20,7 +20,7 @@ use Rattle.description.proofs.Limits.{within, Kept, kept}
 use Rattle.footer.specs.declared.Checked.{Checked}
 use Rattle.footer.specs.Fields.{start, footerBytes, nameSizeOf, numberOf, tilesOf, lastCellsOf, domainBytes}
 use Rattle.footer.specs.Checks.{numberOutside, headChecks, sizeChecks, fieldChecks, footerRefusal}
-use Rattle.footer.specs.Answer.{acceptedChecked, acceptedFooter, refusedChecked, refusedFooter, checkedAnswer, footerAnswer}
+use Rattle.footer.specs.Answer.{acceptedChecked, acceptedFooter, refusedChecked, refusedFooter, checkedAnswer, checkedAnswerBy, footerAnswer, footerAnswerBy}
 use Rattle.footer.proofs.Domain.{ranges-anywhere}
 use Rattle.footer.proofs.Fields.{footer-bytes, start-domain}
 use Rattle.footer.proofs.Parts.{footer-parts}
@@ -96,26 +96,26 @@ module _ (d : Description) (F : ℕ) (footer : List ℕ) where
 
   -- the answers by the one test
   pub checked-passed : footerRefusal d F footer .number ≡ 0 → checkedAnswer d F footer ≡ acceptedChecked d footer
-  unfolding checkedAnswer
+  unfolding checkedAnswerBy
   checked-passed h = rw (eq-eqb _ 0 h)
 
   pub checked-refused : (footerRefusal d F footer .number ≡ 0 → ⊥)
       → checkedAnswer d F footer ≡ refusedChecked (footerRefusal d F footer .number) (footerRefusal d F footer .place)
-  unfolding checkedAnswer
+  unfolding checkedAnswerBy
   checked-refused h = rw (ne-eqb _ 0 h)
 
   pub footer-passed : footerRefusal d F footer .number ≡ 0 → footerAnswer d F footer ≡ acceptedFooter d footer
-  unfolding footerAnswer
+  unfolding footerAnswerBy
   footer-passed h = rw (eq-eqb _ 0 h)
 
   pub footer-refused : (footerRefusal d F footer .number ≡ 0 → ⊥)
       → footerAnswer d F footer ≡ refusedFooter (footerRefusal d F footer .number) (footerRefusal d F footer .place)
-  unfolding footerAnswer
+  unfolding footerAnswerBy
   footer-refused h = rw (ne-eqb _ 0 h)
 
   -- the refusal's number is the answer's
   pub checked-number : checkedAnswer d F footer .number ≡ footerRefusal d F footer .number
-  unfolding checkedAnswer acceptedChecked refusedChecked
+  unfolding checkedAnswerBy acceptedChecked refusedChecked
   checked-number = go (eqb (footerRefusal d F footer .number) 0) refl
     where
       go : (t : Bool) → eqb (footerRefusal d F footer .number) 0 ≡ t → checkedAnswer d F footer .number ≡ footerRefusal d F footer .number

@@ -15,7 +15,8 @@ use Rattle.boxes.specs.Boxes.{noBox, boxOf}
 use Rattle.footer.specs.declared.Checked.{Checked}
 use Rattle.footer.specs.declared.Footer.{Footer}
 use Rattle.footer.specs.Fields.{start, nameSizeOf, byteOf, numberOf, tilesOf, lastCellsOf, domainBytes}
-use Rattle.footer.specs.Checks.{footerRefusal}
+use Rattle.description.specs.Rules.{Rules, current}
+use Rattle.footer.specs.Checks.{footerRefusalBy}
 
 -- Tile i, counted from 0, holds C cells, the last one its own number, any i from n on none.
 unfoldable pub cellsOf : ℕ → ℕ → ℕ → ℕ → ℕ
@@ -130,25 +131,42 @@ module _ (d : Description) (footer : List ℕ) where
   }
 
 -- The answers, and the further requests.
-module _ (d : Description) (F : ℕ) (footer : List ℕ) where
+module _ (rules : Rules) (d : Description) (F : ℕ) (footer : List ℕ) where
   abbrev pub unlessRefused : {A : Type 0} → A → (ℕ → ℕ → A) → A
   unlessRefused answer refused =
-      cond (eqb (footerRefusal d F footer .number) 0) answer
-      (refused (footerRefusal d F footer .number) (footerRefusal d F footer .place))
+      cond (eqb (footerRefusalBy rules d F footer .number) 0) answer
+      (refused (footerRefusalBy rules d F footer .number) (footerRefusalBy rules d F footer .place))
 
-  unfoldable pub checkedAnswer : Checked
-  checkedAnswer = unlessRefused (acceptedChecked d footer) refusedChecked
+  unfoldable pub checkedAnswerBy : Checked
+  checkedAnswerBy = unlessRefused (acceptedChecked d footer) refusedChecked
 
-  unfoldable pub footerAnswer : Footer
-  footerAnswer = unlessRefused (acceptedFooter d footer) refusedFooter
+  unfoldable pub footerAnswerBy : Footer
+  footerAnswerBy = unlessRefused (acceptedFooter d footer) refusedFooter
 
   -- the schema name as that part of the lent footer; for a footer that is refused an empty part
-  unfoldable pub schemaName : List ℕ
-  schemaName = take (checkedAnswer .«name_size») (drop (start d footer "name") footer)
+  unfoldable pub schemaNameBy : List ℕ
+  schemaNameBy = take (checkedAnswerBy .«name_size») (drop (start d footer "name") footer)
 
   -- the cells of tile i, and of the whole; for a refused footer both are 0
-  unfoldable pub tileCells : ℕ → ℕ
-  tileCells i = cellsOf (checkedAnswer .tiles) (checkedAnswer .«last_cells») (d .capacity) i
+  unfoldable pub tileCellsBy : ℕ → ℕ
+  tileCellsBy i = cellsOf (checkedAnswerBy .tiles) (checkedAnswerBy .«last_cells») (d .capacity) i
 
-  unfoldable pub allCells : ℕ
-  allCells = totalCells (checkedAnswer .tiles) (checkedAnswer .«last_cells») (d .capacity)
+  unfoldable pub allCellsBy : ℕ
+  allCellsBy = totalCells (checkedAnswerBy .tiles) (checkedAnswerBy .«last_cells») (d .capacity)
+
+-- by the rules of this library
+module _ (d : Description) (F : ℕ) (footer : List ℕ) where
+  abbrev pub checkedAnswer : Checked
+  checkedAnswer = checkedAnswerBy current d F footer
+
+  abbrev pub footerAnswer : Footer
+  footerAnswer = footerAnswerBy current d F footer
+
+  abbrev pub schemaName : List ℕ
+  schemaName = schemaNameBy current d F footer
+
+  abbrev pub tileCells : ℕ → ℕ
+  tileCells = tileCellsBy current d F footer
+
+  abbrev pub allCells : ℕ
+  allCells = allCellsBy current d F footer

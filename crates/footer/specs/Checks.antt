@@ -10,8 +10,9 @@ use Rattle.answers.specs.Checks.{check, first, each}
 use Rattle.answers.specs.declared.Refusal.{Refusal}
 use Rattle.order.specs.Little.{little}
 use Rattle.description.specs.declared.Description.{Description}
-use Rattle.description.specs.Limits.{leastVersion, mostVersion, leastName, mostName, leastTiles, mostTiles, outside}
-use Rattle.description.specs.Description.{sidesOf, descriptionRefusal}
+use Rattle.description.specs.Limits.{leastVersion, mostVersion, leastName, mostName, leastTiles, outside}
+use Rattle.description.specs.Description.{sidesOf}
+use Rattle.description.specs.Rules.{Rules, current}
 use Rattle.boxes.specs.Boxes.{rangesRefusal}
 use Rattle.footer.specs.Fields.{start, footerBytes, domainBytes}
 
@@ -38,15 +39,19 @@ module _ (footer : List ℕ) where
   fileOffsetsRefusal limit count at =
       each (λ i. check (not (ltb (little footer (at + 8 * i) 8) limit)) refusals.offset (at + 8 * i)) 0 count
 
-module _ (d : Description) (footer : List ℕ) where
+module _ (rules : Rules) (d : Description) (footer : List ℕ) where
   -- 1; fewer than 12 bytes, 2; 3; 4
-  abbrev pub headChecks : List Refusal
-  headChecks =
-      descriptionRefusal d
+  abbrev pub headChecksBy : List Refusal
+  headChecksBy =
+      rules .described d
       ∷ wrongBytes footer (ltb (length footer) 12)
       ∷ numberOutside footer 4 leastVersion mostVersion refusals.version (start d footer "version")
       ∷ numberOutside footer 8 leastName mostName refusals.nameSize (start d footer "name size")
       ∷ []
+
+module _ (d : Description) (footer : List ℕ) where
+  abbrev pub headChecks : List Refusal
+  headChecks = headChecksBy current d footer
 
   -- bytes unlike the total, or F below it, 2
   abbrev pub sizeChecks : ℕ → List Refusal
@@ -55,15 +60,21 @@ module _ (d : Description) (footer : List ℕ) where
       ∷ wrongBytes footer (ltb F (footerBytes d footer))
       ∷ []
 
-  -- field by field in footer order, the length field last
-  abbrev pub fieldChecks : ℕ → List Refusal
-  fieldChecks F =
+  -- field by field in footer order: those before n
+  abbrev pub checksBeforeTiles : List Refusal
+  checksBeforeTiles =
       noFlag footer (start d footer "dense")
       ∷ flagSet footer refusals.dense (start d footer "dense")
       ∷ noFlag footer (start d footer "null domain")
       ∷ flagSet footer refusals.nullDomain (start d footer "null domain")
       ∷ rangesRefusal (d .kinds) (sidesOf (d .dimensions)) (domainBytes d footer) (start d footer "domain")
-      ∷ numberOutside footer 8 leastTiles mostTiles refusals.tiles (start d footer "tiles")
+      ∷ []
+
+module _ (rules : Rules) (d : Description) (footer : List ℕ) where
+  -- from n on, the length field last
+  abbrev pub checksFromTilesBy : ℕ → List Refusal
+  checksFromTilesBy F =
+      numberOutside footer 8 leastTiles (rules .tiles) refusals.tiles (start d footer "tiles")
       ∷ numberOutside footer 8 1 (d .capacity) refusals.lastCells (start d footer "last cells")
       ∷ noFlag footer (start d footer "timestamps")
       ∷ noFlag footer (start d footer "deletes")
@@ -73,6 +84,16 @@ module _ (d : Description) (footer : List ℕ) where
       ∷ wrongBytes footer (not (eqb (little footer (start d footer "length") 8) (footerBytes d footer - 8)))
       ∷ []
 
+  abbrev pub fieldChecksBy : ℕ → List Refusal
+  fieldChecksBy F = checksBeforeTiles d footer ++ checksFromTilesBy F
+
+abbrev pub fieldChecks : Description → List ℕ → ℕ → List Refusal
+fieldChecks = fieldChecksBy current
+
 -- Checks in order.
-unfoldable pub footerRefusal : Description → ℕ → List ℕ → Refusal
-footerRefusal d F footer = first (headChecks d footer ++ (sizeChecks d footer F ++ fieldChecks d footer F))
+unfoldable pub footerRefusalBy : Rules → Description → ℕ → List ℕ → Refusal
+footerRefusalBy rules d F footer =
+    first (headChecksBy rules d footer ++ (sizeChecks d footer F ++ fieldChecksBy rules d footer F))
+
+abbrev pub footerRefusal : Description → ℕ → List ℕ → Refusal
+footerRefusal = footerRefusalBy current

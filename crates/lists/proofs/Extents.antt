@@ -18,8 +18,8 @@ use Rattle.answers.specs.declared.Refusal.{Refusal}
 use Rattle.answers.proofs.Runs.{Each}
 use Rattle.lists.specs.declared.TileOffsets.{TileOffsets}
 use Rattle.lists.specs.Lists.{entry}
-use Rattle.lists.specs.Offsets.{offsetBreaks, offsetsRefusal, answered, offsetOf, extentOf, extentAt, asked, EndToEnd, Extents}
-use Rattle.lists.specs.VarOffsets.{varBreaks, varOffsetsRefusal}
+use Rattle.lists.specs.Offsets.{offsetBreaks, offsetsRefusal, offsetsRefusalBy, answered, offsetOf, extentOf, extentAt, asked, EndToEnd, Extents}
+use Rattle.lists.specs.VarOffsets.{varBreaks, varOffsetsRefusal, varOffsetsRefusalBy}
 use Rattle.lists.proofs.Header.{neither, sound, header-sound, entries-sound}
 use Rattle.lists.proofs.Entries.{sum-next}
 
@@ -102,7 +102,7 @@ starts-in-order n S s some each =
     }
 
 pub var-extents : (n S : ℕ) (s : List ℕ) → varOffsetsRefusal n S s .number ≡ 0 → EndToEnd n S s
-unfolding varOffsetsRefusal
+unfolding varOffsetsRefusalBy
 var-extents n S s accepted =
     let some = sound n 8 s (header-sound _ _ n s accepted) .some in
     end-to-end n S s (starts-in-order n S s (omega arith) (entries-sound _ tileOffsets n s (omega arith) accepted))
@@ -110,11 +110,11 @@ var-extents n S s accepted =
 -- ---- an accepted list for tiles of fixed size: the offsets rise, all of them below S
 module _ (n S : ℕ) (s : List ℕ) (accepted : offsetsRefusal n S s .number ≡ 0) where
   some-tiles : 0 < n
-  unfolding offsetsRefusal
+  unfolding offsetsRefusalBy
   some-tiles = sound n 8 s (header-sound _ _ n s accepted) .some
 
   kept : Kept n (entry s) (λ i. leb (entry s i) (entry s (i - 1))) (λ i. leb S (entry s i))
-  unfolding offsetsRefusal
+  unfolding offsetsRefusalBy
   kept = rule-kept _ _ _ _ (entries-sound (offsetBreaks S (entry s)) tileOffsets n s (omega arith) accepted)
 
   rising : (i : ℕ) → i + 1 < n → entry s i < entry s (i + 1)

@@ -17,7 +17,7 @@ use Rattle.answers.proofs.Runs.{Each}
 use Rattle.answers.proofs.Checks.{past, stop, clear, past-check, check-clear, each-none, each-clear, last, joined, joined-first}
 use Rattle.description.specs.Limits.{leastTiles, mostTiles, outside}
 use Rattle.order.specs.Little.{little}
-use Rattle.lists.specs.Lists.{listRefusal, entriesRefusal}
+use Rattle.lists.specs.Lists.{listRefusal, listRefusalBy, entriesRefusal, entriesRefusalBy}
 
 pub neither : (a b : Bool) → a || b ≡ false → (a ≡ false) × (b ≡ false)
 neither true b e = absurd (true≢false e)
@@ -31,7 +31,7 @@ cleared e h = sym (ap (λ (x : Refusal). x .number) e) ∙ h
 pub others-joined : (n width : ℕ) (s : List ℕ) → outside leastTiles mostTiles n ≡ false
     → joined (check (ltb (length s) 8) bytes (length s)) (check (not (eqb (little s 0 8) n)) count 0
     ∷ check (not (eqb (length s) (8 + width * n))) bytes (length s) ∷ []) ≡ listRefusal n width s
-unfolding listRefusal
+unfolding listRefusalBy
 others-joined n width s inside =
     joined-first _ (_ ∷ []) (not (eqb (length s) (8 + width * n))) bytes (length s) (omega arith) ∙ sym (past-check _ _ _ _ inside)
 
@@ -43,7 +43,7 @@ pub record Sound (n width : ℕ) (s : List ℕ) : Type 0 where
   pub bytes : length s ≡ 8 + width * n
 
 pub sound : (n width : ℕ) (s : List ℕ) → listRefusal n width s .number ≡ 0 → Sound n width s
-unfolding listRefusal
+unfolding listRefusalBy
 sound n width s h =
     let a = clear _ _ h in
     let b = clear _ _ (a .1) in
@@ -60,21 +60,21 @@ sound n width s h =
 -- ---- the entries, after the header
 module _ (breaks : ℕ → Bool) (number n : ℕ) (s : List ℕ) where
   pub header-stops : (listRefusal n 8 s .number ≡ 0 → ⊥) → entriesRefusal breaks number n s ≡ listRefusal n 8 s
-  unfolding entriesRefusal
+  unfolding entriesRefusalBy
   header-stops h = stop _ _ h
 
   pub entries-decide : listRefusal n 8 s .number ≡ 0
       → entriesRefusal breaks number n s ≡ each (λ i. check (breaks i) number (8 + 8 * i)) 0 n
-  unfolding entriesRefusal
+  unfolding entriesRefusalBy
   entries-decide h = past _ _ h ∙ last _ (each-none _ 0 n)
 
   -- of a list that is accepted
   pub header-sound : entriesRefusal breaks number n s .number ≡ 0 → listRefusal n 8 s .number ≡ 0
-  unfolding entriesRefusal
+  unfolding entriesRefusalBy
   header-sound accepted = clear _ _ accepted .0
 
   pub entries-sound : 0 < number → entriesRefusal breaks number n s .number ≡ 0 → Each (λ i. breaks i ≡ false) 0 n
-  unfolding entriesRefusal
+  unfolding entriesRefusalBy
   entries-sound some accepted i a b =
       let each-one = each-clear _ 0 n (clear _ _ (clear _ _ accepted .1) .0) in
       check-clear (breaks i) number (8 + 8 * i) some (each-one i a b)

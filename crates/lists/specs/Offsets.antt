@@ -8,23 +8,30 @@ use lib.Dec.{ltb, leb, eqb}
 use Rattle.answers.specs.Refusals.{tileOffsets}
 use Rattle.answers.specs.Runs.{sum}
 use Rattle.answers.specs.declared.Refusal.{Refusal}
+use Rattle.description.specs.Rules.{Rules, current}
 use Rattle.lists.specs.declared.TileOffsets.{TileOffsets}
 use Rattle.lists.specs.declared.Extent.{Extent}
-use Rattle.lists.specs.Lists.{entry, entriesRefusal}
+use Rattle.lists.specs.Lists.{entry, entriesRefusalBy}
 
 -- "Offsets, with data file size S: the first is 0, each later one above the one before, all below S, else 18."
 abbrev pub offsetBreaks : ℕ → (ℕ → ℕ) → ℕ → Bool
 offsetBreaks S offset i = cond (eqb i 0) (not (eqb (offset i) 0)) (leb (offset i) (offset (i - 1))) || leb S (offset i)
 
-unfoldable pub offsetsRefusal : ℕ → ℕ → List ℕ → Refusal
-offsetsRefusal n S s = entriesRefusal (offsetBreaks S (entry s)) tileOffsets n s
+unfoldable pub offsetsRefusalBy : Rules → ℕ → ℕ → List ℕ → Refusal
+offsetsRefusalBy rules n S s = entriesRefusalBy rules (offsetBreaks S (entry s)) tileOffsets n s
+
+abbrev pub offsetsRefusal : ℕ → ℕ → List ℕ → Refusal
+offsetsRefusal = offsetsRefusalBy current
 
 -- "An accepted list answers n": a refusal has 0 there
 abbrev pub answered : ℕ → Refusal → TileOffsets
 answered n r = record { number = r .number; place = r .place; tiles = cond (eqb (r .number) 0) n 0 }
 
+abbrev pub offsetsAnswerBy : Rules → ℕ → ℕ → List ℕ → TileOffsets
+offsetsAnswerBy rules n S s = answered n (offsetsRefusalBy rules n S s)
+
 abbrev pub offsetsAnswer : ℕ → ℕ → List ℕ → TileOffsets
-offsetsAnswer n S s = answered n (offsetsRefusal n S s)
+offsetsAnswer = offsetsAnswerBy current
 
 -- "Tile i's extent runs to the next offset, the last one's to S"
 abbrev pub endOf : ℕ → ℕ → List ℕ → ℕ → ℕ
@@ -45,8 +52,11 @@ extentAt n S s i = record { offset = offsetOf n s i; extent = extentOf n S s i }
 abbrev pub asked : Refusal → Extent → Extent
 asked r e = cond (eqb (r .number) 0) e (record { offset = 0; extent = 0 })
 
+abbrev pub extentAnswerBy : Rules → ℕ → ℕ → List ℕ → ℕ → Extent
+extentAnswerBy rules n S s i = asked (offsetsRefusalBy rules n S s) (extentAt n S s i)
+
 abbrev pub extentAnswer : ℕ → ℕ → List ℕ → ℕ → Extent
-extentAnswer n S s i = asked (offsetsRefusal n S s) (extentAt n S s i)
+extentAnswer = extentAnswerBy current
 
 -- "all extents add up to S": each tile's bytes end where the next one's start, and the last one's at S
 pub record EndToEnd (n S : ℕ) (s : List ℕ) : Type 0 where

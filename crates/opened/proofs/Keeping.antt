@@ -14,7 +14,7 @@ use Rattle.footer.specs.Fields.{tilesOf, domainBytes}
 use Rattle.footer.specs.Checks.{footerRefusal}
 use Rattle.footer.proofs.Passed.{passed}
 use Rattle.rtree.specs.Body.{fanoutOf, levelsOf}
-use Rattle.rtree.specs.Opening.{bodyRefusal, refusedIn, openAnswer, Accepted}
+use Rattle.rtree.specs.Opening.{bodyRefusal, refusedIn, openAnswer, openAnswerBy, Accepted}
 use Rattle.rtree.proofs.Nested.{opened-accepted}
 use Rattle.boxes.specs.declared.Window.{Window}
 use Rattle.query.specs.declared.Answer.{Answer}
@@ -31,7 +31,7 @@ by-cases r s n f l body some true false a b = rw b
 by-cases r s n f l body some false u a b = rw a
 
 pub kept-held : (d : Description) (F : ℕ) (footer body : List ℕ) → keptPart body (heldTiles d F footer body) ≡ heldBody d F footer body
-unfolding openAnswer
+unfolding openAnswerBy
 kept-held d F footer body =
     by-cases (footerRefusal d F footer) (bodyRefusal d (tilesOf d footer) (domainBytes d footer) body) (tilesOf d footer)
     (fanoutOf body) (levelsOf body) body (λ h. omega (arith, passed d F footer h .some-tiles)) _ _ refl refl
@@ -47,7 +47,7 @@ no-tiles r s n f l false u a b h = absurd (omega arith)
 -- so one that holds some is accepted
 module _ (d : Description) (F : ℕ) (footer body : List ℕ) where
   held-opened : 0 < heldTiles d F footer body → openAnswer d F footer body .number ≡ 0
-  unfolding openAnswer
+  unfolding openAnswerBy
   held-opened =
       no-tiles (footerRefusal d F footer) (bodyRefusal d (tilesOf d footer) (domainBytes d footer) body) (tilesOf d footer) (fanoutOf body) (levelsOf body)
       _ _ refl refl

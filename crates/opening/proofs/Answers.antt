@@ -18,11 +18,11 @@ use Rattle.footer.specs.Checks.{footerRefusal}
 use Rattle.footer.specs.Answer.{checkedAnswer, refusedChecked}
 use Rattle.footer.proofs.Passed.{checked-number, checked-refused, Ready, ready}
 use Rattle.rtree.specs.Body.{fanoutOf, levelsOf}
-use Rattle.rtree.specs.Opening.{bodyRefusal, refusedIn, openAnswer}
+use Rattle.rtree.specs.Opening.{bodyRefusal, refusedIn, openAnswer, openAnswerBy}
 
 module _ (d : Description) (F : ℕ) (footer body : List ℕ) {c : Checked} (e : c ≡ checkedAnswer d F footer) where
   pub said-first : (c .number ≡ 0 → ⊥) → refusedIn 0 (refusal (c .number) (c .place)) ≡ openAnswer d F footer body
-  unfolding openAnswer refusedChecked
+  unfolding openAnswerBy refusedChecked
   said-first h =
       let same = ap (λ (x : Checked). x .number) e ∙ checked-number d F footer in
       let some : footerRefusal d F footer .number ≡ 0 → ⊥ = λ z. h (same ∙ z) in
@@ -45,13 +45,13 @@ module _ (d : Description) (F : ℕ) (footer body : List ℕ) {c : Checked} (e :
 
       pub said-second : (told .number ≡ 0 → ⊥)
           → refusedIn 1 (refusal (told .number) (told .place)) ≡ openAnswer d F footer body
-      unfolding openAnswer
+      unfolding openAnswerBy
       said-second some =
           rw (said-body, eq-eqb _ 0 (passed .not-refused), ne-eqb (bodySays .number) 0 (rw said-body at some))
 
       pub said-opened : told .number ≡ 0 → {f l : ℕ} → f ≡ fanoutOf body → l ≡ levelsOf body
           → record { number = 0; place = 0; which = 0; tiles = c .tiles; fanout = f; levels = l }
           ≡ openAnswer d F footer body
-      unfolding openAnswer
+      unfolding openAnswerBy
       said-opened none p q =
           rw (p, q, passed .tiles, eq-eqb _ 0 (passed .not-refused), eq-eqb (bodySays .number) 0 (rw said-body at none))

@@ -1,5 +1,6 @@
 -- The laws that belong to no one function.
 pub mod Promised
+pub mod Rules
 mod Rows
 mod Root
 mod Window

@@ -35,7 +35,7 @@ use Rattle.rtree.proofs.Passed.{Passed, passed, shaped-within}
 use Rattle.rtree.proofs.Nested.{nested}
 use Rattle.query.specs.declared.Answer.{Answer}
 use Rattle.query.specs.declared.Walk.{Walk}
-use Rattle.query.specs.Query.{askedRefusal, queryRefusal, meeting, lookedAt, foundAt, refusedAnswer, queryAnswer, queryBuffer, flatCountOf, Lists, Bounded, Promises}
+use Rattle.query.specs.Query.{askedRefusal, askedRefusalBy, queryRefusal, queryRefusalBy, meeting, lookedAt, foundAt, refusedAnswer, queryAnswer, queryAnswerBy, queryBuffer, queryBufferBy, flatCountOf, Lists, Bounded, Promises}
 use Rattle.query.specs.Code.Walking.{Ground, ground, tilesIn, seen, state, childrenWalked, Grounded, ChildRow}
 use Rattle.query.proofs.Root.{comes-to, root-row}
 use Rattle.query.proofs.Window.{Fit, carries, meets-same}
@@ -60,7 +60,7 @@ Promised d n body w r before after =
 -- description, tiles, window
 passed-asked : (d : Description) (n : ℕ) (w : Window) → askedRefusal d n w .number ≡ 0
     → Kept d × ((leastTiles ≤ n) × (n ≤ mostTiles)) × (windowRefusal d w .number ≡ 0)
-unfolding askedRefusal
+unfolding askedRefusalBy
 passed-asked d n w h =
     let a = clear _ _ h in
     let b = clear _ _ (a .1) in
@@ -74,7 +74,7 @@ groundOf d n body w =
 
 module _ (d : Description) (n : ℕ) (body : List ℕ) (w : Window) where
   pub passed-all : queryRefusal d n body w .number ≡ 0 → Cleared d n body w
-  unfolding queryRefusal
+  unfolding queryRefusalBy
   passed-all h =
       let a = both-clear (askedRefusal d n w) (shapeRefusal n (boxBytes d) body) h in
       let asked = passed-asked d n w (a .0) in
@@ -89,11 +89,11 @@ module _ (d : Description) (n : ℕ) (body : List ℕ) (w : Window) where
 
   -- the checks in their order, as the code goes through them
   pub asked-refusal : {r : Refusal} → r ≡ askedRefusal d n w → (r .number ≡ 0 → ⊥) → r ≡ queryRefusal d n body w
-  unfolding queryRefusal
+  unfolding queryRefusalBy
   asked-refusal e some = e ∙ sym (halt (askedRefusal d n w) (shapeRefusal n (boxBytes d) body) (rw e at some))
 
   pub shape-refusal : askedRefusal d n w .number ≡ 0 → {r : Shaped} → IsShaped d n body r → refusal (r .number) (r .place) ≡ queryRefusal d n body w
-  unfolding queryRefusal
+  unfolding queryRefusalBy
   shape-refusal asked s =
       let tiles = passed-asked d n w asked .1 in
       rw (s .number, s .place)
@@ -150,25 +150,25 @@ module _ (d : Description) (n : ℕ) (body : List ℕ) (w : Window) where
   -- what is answered and left, where the query is refused
   module _ {r : Refusal} (e : r ≡ queryRefusal d n body w) (some : r .number ≡ 0 → ⊥) where
     refused-answer : refusedAnswer r ≡ queryAnswer d n body w
-    unfolding queryAnswer
+    unfolding queryAnswerBy
     refused-answer = rw (← e, ne-eqb (r .number) 0 some)
 
     refused-buffer : (out : List ℕ) → out ≡ queryBuffer d n body w out
-    unfolding queryBuffer
+    unfolding queryBufferBy
     refused-buffer out = rw (← e, ne-eqb (r .number) 0 some)
 
   -- and where it isn't
   module _ (clear : queryRefusal d n body w .number ≡ 0) where
     clear-answer : queryAnswer d n body w ≡ record { number = 0; place = 0; found = length (foundAt d n body w); looked = lookedAt d n body w }
-    unfolding queryAnswer
+    unfolding queryAnswerBy
     clear-answer = rw (eq-eqb (queryRefusal d n body w .number) 0 clear)
 
     clear-buffer : (out : List ℕ) → queryBuffer d n body w out ≡ laid (foundAt d n body w) out
-    unfolding queryBuffer
+    unfolding queryBufferBy
     clear-buffer out = rw (eq-eqb (queryRefusal d n body w .number) 0 clear)
 
   pub answer-clear : queryAnswer d n body w .number ≡ 0 → queryRefusal d n body w .number ≡ 0
-  unfolding queryAnswer
+  unfolding queryAnswerBy
   answer-clear h = go (eqb (queryRefusal d n body w .number) 0) refl h
     where
       good : Answer

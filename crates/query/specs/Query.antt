@@ -12,8 +12,9 @@ use Rattle.answers.specs.Laid.{laid}
 use Rattle.answers.specs.declared.Refusal.{Refusal}
 use Rattle.description.specs.declared.Description.{Description}
 use Rattle.boxes.specs.declared.Window.{Window}
-use Rattle.description.specs.Limits.{leastTiles, mostTiles, outside}
-use Rattle.description.specs.Description.{sidesOf, boxBytes, descriptionRefusal}
+use Rattle.description.specs.Limits.{leastTiles, outside}
+use Rattle.description.specs.Description.{sidesOf, boxBytes}
+use Rattle.description.specs.Rules.{Rules, current}
 use Rattle.boxes.specs.Boxes.{boxMeets}
 use Rattle.boxes.specs.Windows.{windowRefusal}
 use Rattle.tree.specs.Walk as walk
@@ -23,18 +24,21 @@ use Rattle.rtree.specs.Body.{fanoutOf, levelsOf, boxAt, shapeRefusal}
 use Rattle.rtree.specs.Opening.{Accepted}
 
 -- 1, 10, the query
-unfoldable pub askedRefusal : Description → ℕ → Window → Refusal
-askedRefusal d n w =
-    first (descriptionRefusal d ∷ check (outside leastTiles mostTiles n) refusals.tiles 0 ∷ windowRefusal d w ∷ [])
+unfoldable pub askedRefusalBy : Rules → Description → ℕ → Window → Refusal
+askedRefusalBy rules d n w = first (
+    rules .described d
+    ∷ check (outside leastTiles (rules .tiles) n) refusals.tiles 0
+    ∷ windowRefusal d w
+    ∷ []
+    )
+
+abbrev pub askedRefusal : Description → ℕ → Window → Refusal
+askedRefusal = askedRefusalBy current
 
 abbrev pub refusedAnswer : Refusal → Answer
 refusedAnswer r = record { number = r .number; place = r .place; found = 0; looked = 0 }
 
 module _ (d : Description) (n : ℕ) (body : List ℕ) (w : Window) where
-  -- then the shape
-  unfoldable pub queryRefusal : Refusal
-  queryRefusal = otherwise (askedRefusal d n w) (shapeRefusal n (boxBytes d) body)
-
   -- box k of the level at distance j meets the query
   unfoldable pub meeting : ℕ → ℕ → Bool
   meeting j k = boxMeets (d .kinds) (sidesOf (d .dimensions)) (boxAt n (boxBytes d) body j k) (w .sides)
@@ -46,23 +50,39 @@ module _ (d : Description) (n : ℕ) (body : List ℕ) (w : Window) where
   abbrev pub foundAt : List ℕ
   foundAt = walk.foundTiles (fanoutOf body) n meeting
 
-  -- Answer: number found, number looked at. A refusal has 0 in every other number.
-  unfoldable pub queryAnswer : Answer
-  queryAnswer =
-      cond (eqb (queryRefusal .number) 0)
-      (record { number = 0; place = 0; found = length foundAt; looked = lookedAt })
-      (refusedAnswer queryRefusal)
-
-  -- the first found tiles, as many as fit, and the rest untouched; all of it where the query is refused
-  unfoldable pub queryBuffer : List ℕ → List ℕ
-  queryBuffer out = cond (eqb (queryRefusal .number) 0) (laid foundAt out) out
-
   -- the flat listing and the flat count
   abbrev pub flatListingOf : List ℕ
   flatListingOf = flat.flatListing n meeting
 
   abbrev pub flatCountOf : ℕ
   flatCountOf = flat.flatCount (fanoutOf body) n meeting
+
+module _ (rules : Rules) (d : Description) (n : ℕ) (body : List ℕ) (w : Window) where
+  -- then the shape
+  unfoldable pub queryRefusalBy : Refusal
+  queryRefusalBy = otherwise (askedRefusalBy rules d n w) (shapeRefusal n (boxBytes d) body)
+
+  -- Answer: number found, number looked at. A refusal has 0 in every other number.
+  unfoldable pub queryAnswerBy : Answer
+  queryAnswerBy =
+      cond (eqb (queryRefusalBy .number) 0)
+      (record { number = 0; place = 0; found = length (foundAt d n body w); looked = lookedAt d n body w })
+      (refusedAnswer queryRefusalBy)
+
+  -- the first found tiles, as many as fit, and the rest untouched; all of it where the query is refused
+  unfoldable pub queryBufferBy : List ℕ → List ℕ
+  queryBufferBy out = cond (eqb (queryRefusalBy .number) 0) (laid (foundAt d n body w) out) out
+
+-- by the rules of this library
+module _ (d : Description) (n : ℕ) (body : List ℕ) (w : Window) where
+  abbrev pub queryRefusal : Refusal
+  queryRefusal = queryRefusalBy current d n body w
+
+  abbrev pub queryAnswer : Answer
+  queryAnswer = queryAnswerBy current d n body w
+
+  abbrev pub queryBuffer : List ℕ → List ℕ
+  queryBuffer = queryBufferBy current d n body w
 
 -- Demand 2: over an accepted tree, a query that isn't refused lists exactly the tiles whose box meets the window.
 pub record Lists (d : Description) (n : ℕ) (body : List ℕ) (w : Window) (r : Answer) (before after : List ℕ) : Type 0 where

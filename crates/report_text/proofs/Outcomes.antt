@@ -27,7 +27,7 @@ use Rattle.lists.specs.declared.TileOffsets.{TileOffsets}
 use Rattle.rtree.specs.declared.Opened.{Opened}
 use Rattle.query.specs.declared.Answer.{Answer}
 use Rattle.rtree.specs.Body.{fanoutOf}
-use Rattle.query.specs.Query.{queryRefusal, queryAnswer, foundAt, lookedAt, meeting, queryBuffer}
+use Rattle.query.specs.Query.{queryRefusal, queryAnswer, queryAnswerBy, foundAt, lookedAt, meeting, queryBuffer, queryBufferBy}
 use Rattle.query.proofs.Promised.{passed-all}
 use Rattle.decimal.specs.Write.{put}
 use Rattle.decimal.proofs.Put.{put-fits}
@@ -40,7 +40,7 @@ use Rattle.report_text.specs.Code.Writing.{mostFound, Wrote, outcomeText
 -- a query's answer
 module _ (d : Description) (n : ℕ) (tree : List ℕ) (w : Window) where
   query-clear : queryAnswer d n tree w .number ≡ 0 → queryRefusal d n tree w .number ≡ 0
-  unfolding queryAnswer
+  unfolding queryAnswerBy
   query-clear h = go (eqb (queryRefusal d n tree w .number) 0) refl h
     where
       go : (b : Bool) → eqb (queryRefusal d n tree w .number) 0 ≡ b
@@ -52,11 +52,11 @@ module _ (d : Description) (n : ℕ) (tree : List ℕ) (w : Window) where
 
   module _ (clear : queryRefusal d n tree w .number ≡ 0) where
     query-found : queryAnswer d n tree w .found ≡ length (foundAt d n tree w)
-    unfolding queryAnswer
+    unfolding queryAnswerBy
     query-found = rw (eq-eqb _ 0 clear)
 
     query-laid : (out : List ℕ) → queryBuffer d n tree w out ≡ laid (foundAt d n tree w) out
-    unfolding queryBuffer
+    unfolding queryBufferBy
     query-laid out = rw (eq-eqb _ 0 clear)
 
     -- a tree of at most 65,536 bytes has at most 8,192 tiles, and no more are found

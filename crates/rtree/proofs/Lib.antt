@@ -1,3 +1,4 @@
 -- The laws that belong to no one function.
 pub mod Passed
 pub mod Nested
+pub mod Rules

@@ -15,14 +15,15 @@ use Rattle.answers.specs.declared.Refusal.{Refusal}
 use Rattle.answers.proofs.Checks.{both-clear, check-clear, each-clear}
 use Rattle.description.specs.declared.Description.{Description}
 use Rattle.description.specs.Description.{sidesOf, boxBytes}
+use Rattle.description.specs.Rules.{Rules, current}
 use Rattle.boxes.specs.Boxes.{rangesRefusal, boxInside, boxRefusal}
 use Rattle.tree.specs.Shape.{boxes, height}
 use Rattle.footer.specs.Fields.{tilesOf, domainBytes}
-use Rattle.footer.specs.Checks.{footerRefusal}
+use Rattle.footer.specs.Checks.{footerRefusal, footerRefusalBy}
 use Rattle.rtree.specs.declared.Opened.{Opened}
 use Rattle.rtree.specs.Body.{fanoutOf, placeOf, boxAt, shapeRefusal}
 use Rattle.rtree.specs.Opening.{rootRefusal, innerRefusal, levelRefusal, boxesRefusal, bodyRefusal}
-use Rattle.rtree.specs.Opening.{openAnswer, Accepted}
+use Rattle.rtree.specs.Opening.{openAnswer, openAnswerBy, Accepted}
 
 -- an answer that refuses nothing comes from checks that refuse nothing, and holds the value of that case
 picked : (r s : Refusal) (good bad other : Opened) → bad .number ≡ s .number → other .number ≡ r .number
@@ -37,13 +38,20 @@ picked r s good bad other p q h = go (eqb (r .number) 0) (eqb (s .number) 0) ref
     go true false a b h = absurd (eqb-false (s .number) 0 b (omega arith))
     go false u a b h = absurd (eqb-false (r .number) 0 a (omega arith))
 
+-- by any rules
+pub opened-by : (rules : Rules) (d : Description) (F : ℕ) (footer body : List ℕ) → openAnswerBy rules d F footer body .number ≡ 0
+    → (footerRefusalBy rules d F footer .number ≡ 0)
+    × (bodyRefusal d (tilesOf d footer) (domainBytes d footer) body .number ≡ 0)
+    × (openAnswerBy rules d F footer body .tiles ≡ tilesOf d footer)
+unfolding openAnswerBy
+opened-by rules d F footer body h =
+    picked (footerRefusalBy rules d F footer) (bodyRefusal d (tilesOf d footer) (domainBytes d footer) body) _ _ _ refl refl h
+
 module _ (d : Description) (F : ℕ) (footer body : List ℕ) (h : openAnswer d F footer body .number ≡ 0) where
   pub opened : (footerRefusal d F footer .number ≡ 0)
       × (bodyRefusal d (tilesOf d footer) (domainBytes d footer) body .number ≡ 0)
       × (openAnswer d F footer body .tiles ≡ tilesOf d footer)
-  unfolding openAnswer
-  opened =
-      picked (footerRefusal d F footer) (bodyRefusal d (tilesOf d footer) (domainBytes d footer) body) _ _ _ refl refl h
+  opened = opened-by current d F footer body h
 
   -- an opened tree is accepted
   pub opened-accepted : Accepted d (openAnswer d F footer body .tiles) body

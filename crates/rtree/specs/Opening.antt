@@ -13,7 +13,8 @@ use Rattle.description.specs.Description.{sidesOf, boxBytes}
 use Rattle.boxes.specs.Boxes.{boxRefusal}
 use Rattle.tree.specs.Shape.{boxes, height}
 use Rattle.footer.specs.Fields.{tilesOf, domainBytes}
-use Rattle.footer.specs.Checks.{footerRefusal}
+use Rattle.description.specs.Rules.{Rules, current}
+use Rattle.footer.specs.Checks.{footerRefusalBy}
 use Rattle.rtree.specs.declared.Opened.{Opened}
 use Rattle.rtree.specs.Body.{fanoutOf, levelsOf, placeOf, boxAt, shapeRefusal}
 
@@ -57,12 +58,15 @@ acceptedTree n body =
     record { number = 0; place = 0; which = 0; tiles = n; fanout = fanoutOf body; levels = levelsOf body }
 
 -- The footer's refusals come first and count in the first of the two, the others in the second.
-unfoldable pub openAnswer : Description → ℕ → List ℕ → List ℕ → Opened
-openAnswer d F footer body =
+unfoldable pub openAnswerBy : Rules → Description → ℕ → List ℕ → List ℕ → Opened
+openAnswerBy rules d F footer body =
     let told = bodyRefusal d (tilesOf d footer) (domainBytes d footer) body in
-    cond (eqb (footerRefusal d F footer .number) 0)
+    cond (eqb (footerRefusalBy rules d F footer .number) 0)
     (cond (eqb (told .number) 0) (acceptedTree (tilesOf d footer) body) (refusedIn 1 told))
-    (refusedIn 0 (footerRefusal d F footer))
+    (refusedIn 0 (footerRefusalBy rules d F footer))
+
+abbrev pub openAnswer : Description → ℕ → List ℕ → List ℕ → Opened
+openAnswer = openAnswerBy current
 
 -- An accepted tree is a body that passes every check of opening, lent whole with some footer and F, and is asked with
 -- the same description and with the n of that footer.

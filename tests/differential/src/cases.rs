@@ -111,6 +111,30 @@ fn plain(d: &Description) -> Description {
     Description { kinds, fields: d.fields.clamp(1, 3), capacity: d.capacity.clamp(1, *limits::CAPACITY.end()) }
 }
 
+/// More tiles than a fragment once might have, and as many as it may.
+fn many(c: &mut Chance) -> u64 {
+    let most = *limits::TILES.end();
+    match c.below(4) {
+        0 => c.of(&[65_536, 65_537]),
+        1 => c.of(&[most - 1, most]),
+        _ => 1 + c.below(most),
+    }
+}
+
+/// The first bytes of a tree of so many tiles, with the right number of levels mostly, and some that are not its counts and boxes.
+fn front(c: &mut Chance, n: u64) -> Vec<u8> {
+    let f = c.of(&[2u64, 3, 10, 16, 1024]);
+    let (mut count, mut levels) = (n, 1u32);
+    while count > 1 {
+        count = count.div_ceil(f);
+        levels += 1;
+    }
+    let stored = if c.one_in(4) { levels + 1 - 2 * c.below(2) as u32 } else { levels };
+    let mut body = [(f as u32).to_le_bytes(), stored.to_le_bytes()].concat();
+    body.extend((0..c.below(8)).flat_map(|_| c.of(&[1, 2, n]).to_le_bytes()));
+    body
+}
+
 type Box_ = Vec<(i64, i64)>;
 
 fn bytes(c: &mut Chance, kinds: &[u8], sides: &Box_) -> Vec<u8> {
@@ -266,8 +290,17 @@ fn window(c: &mut Chance, d: &Description) -> (Vec<u8>, Vec<u8>) {
     (kinds, ends)
 }
 
+/// Few tiles mostly; more than there are entries, or a number outside the limits, now and then.
+fn some_tiles(c: &mut Chance) -> u64 {
+    match c.below(50) {
+        0 => c.of(&[0, limits::TILES.end() + 1, u64::MAX]),
+        1 => many(c),
+        _ => 1 + c.below(20),
+    }
+}
+
 fn list(c: &mut Chance, sum: bool) -> (u64, u64, Vec<u8>) {
-    let n = if c.one_in(50) { c.of(&[0, limits::TILES.end() + 1, u64::MAX]) } else { 1 + c.below(20) };
+    let n = some_tiles(c);
     let count = n.min(30);
     let mut entries = vec![];
     let mut next = 0u64;
@@ -289,7 +322,7 @@ fn list(c: &mut Chance, sum: bool) -> (u64, u64, Vec<u8>) {
 /// Var offsets from few numbers, so that many are equal: all of them 0, or at S, which may be 0 or near 2^64. Some have an entry that falls or
 /// is S + 1.
 fn var_list(c: &mut Chance) -> (u64, u64, Vec<u8>) {
-    let n = if c.one_in(50) { c.of(&[0, limits::TILES.end() + 1, u64::MAX]) } else { 1 + c.below(20) };
+    let n = some_tiles(c);
     let size = c.of(&[0, 1, 300, 300, u64::MAX - 1, u64::MAX]);
     let middle = c.below(size.saturating_add(1).max(1));
     let mut entries: Vec<u64> = (0..n.min(30)).map(|_| c.of(&[0, middle, size, size - size / 3])).collect();
@@ -393,7 +426,13 @@ pub fn make(c: &mut Chance) -> Case {
     let mut t = tree(c, &p);
     if what < 4 {
         let (kinds, ends) = window(c, &d);
-        let tiles = if c.one_in(40) { c.of(&[0, t.tiles + 1, limits::TILES.end() + 1, u64::MAX]) } else { t.tiles };
+        let mut tiles = if c.one_in(40) { c.of(&[0, t.tiles + 1, limits::TILES.end() + 1, u64::MAX]) } else { t.tiles };
+        if c.one_in(30) {
+            tiles = many(c);
+            if c.one_in(2) {
+                t.body = front(c, tiles);
+            }
+        }
         if c.one_in(3) {
             damage(c, &mut t.body);
         }
@@ -405,6 +444,12 @@ pub fn make(c: &mut Chance) -> Case {
         side.1 += c.below(2) as i64 * 5;
         if c.one_in(60) {
             side.0 += 1;
+        }
+    }
+    if c.one_in(20) {
+        t.tiles = many(c);
+        if c.one_in(2) {
+            t.body = front(c, t.tiles);
         }
     }
     let mut f = footer(c, &p, t.tiles, &domain);

@@ -3,6 +3,9 @@
 //! number of the input, from which the input can be made again.
 //!
 //!     differential [INPUTS] [SEED] [FIRST]
+//!     differential many [TILES]
+//!
+//! The second compares whole trees and lists of so many tiles, or of as many as there may be.
 //!
 //! Every number of every answer and every place of every buffer is compared, the ones that must stay as they were too. Some of the inputs are lent
 //! from pages with unreadable pages on both sides.
@@ -10,6 +13,7 @@
 mod cases;
 mod guard;
 mod library;
+mod many;
 mod right;
 mod rules;
 
@@ -90,7 +94,11 @@ impl Tally {
 }
 
 fn main() {
-    let arguments: Vec<u64> = std::env::args().skip(1).map(|a| a.parse().expect("a number")).collect();
+    let many = std::env::args().nth(1).is_some_and(|a| a == "many");
+    let arguments: Vec<u64> = std::env::args().skip(1 + usize::from(many)).map(|a| a.parse().expect("a number")).collect();
+    if many {
+        return many::compare(arguments.first().copied().unwrap_or(*rules::limits::TILES.end()));
+    }
     let inputs = arguments.first().copied().unwrap_or(1_000_000);
     let seed = arguments.get(1).copied().unwrap_or(20_261_115);
     let first = arguments.get(2).copied().unwrap_or(0);

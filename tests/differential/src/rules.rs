@@ -29,7 +29,7 @@ pub mod limits {
     pub const CAPACITY: RangeInclusive<u64> = 1..=1_000_000_000;
     pub const VERSION: RangeInclusive<u64> = 16..=21;
     pub const NAME: RangeInclusive<u64> = 1..=255;
-    pub const TILES: RangeInclusive<u64> = 1..=65_536;
+    pub const TILES: RangeInclusive<u64> = 1..=16_777_216;
     pub const FANOUT: RangeInclusive<u64> = 2..=1_024;
 }
 

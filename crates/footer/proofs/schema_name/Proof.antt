@@ -5,14 +5,14 @@ use native.Mathlib.Omega.{arith}
 use borrow.Author.Needs.{needs}
 use lib.ListN.{take, drop}
 use Rattle.footer.specs.Fields.{nameSizeOf}
-use Rattle.footer.specs.Answer.{acceptedChecked, refusedChecked, schemaName}
+use Rattle.footer.specs.Answer.{acceptedChecked, refusedChecked, schemaNameBy}
 use Rattle.footer.proofs.Fields.{footer-bytes, start-name}
 use Rattle.footer.proofs.Passed.{Passed, passed, checked-passed, checked-refused}
 use Rattle.footer.proofs.schema_name.Statement.{statement}
 use Rattle.footer.proofs.schema_name.Tie as tie
 
 returns : tie.Need-returns
-unfolding schemaName refusedChecked
+unfolding schemaNameBy refusedChecked
 returns c =
     let h = c .before .before .before in
     let a = h .before .before .args in
@@ -25,7 +25,7 @@ whole c =
     passed (a .description) (a .file-size) (a .bytes .now) (rw (h .check-footer .ensures) at (c .before .if1 .left))
 
 returns-2 : tie.Need-returns-2
-unfolding schemaName acceptedChecked
+unfolding schemaNameBy acceptedChecked
 returns-2 c =
     let u = c .before in
     let h = u .before .before .before in

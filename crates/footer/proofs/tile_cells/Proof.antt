@@ -1,12 +1,12 @@
 -- `footer::tile_cells` meets its contract: the cells by the small answer's numbers, which are 0 where the footer is refused. Assumes nothing.
 use mathlib.Core.Path.{_∙_}
 use borrow.Author.Needs.{needs}
-use Rattle.footer.specs.Answer.{tileCells}
+use Rattle.footer.specs.Answer.{tileCellsBy}
 use Rattle.footer.proofs.tile_cells.Statement.{statement}
 use Rattle.footer.proofs.tile_cells.Tie as tie
 
 returns : tie.Need-returns
-unfolding tileCells
+unfolding tileCellsBy
 returns c = c .cells-at .ensures ∙ rw (c .before .check .ensures)
 
 pub tile-cells-spec : {M : Type 1} → statement M

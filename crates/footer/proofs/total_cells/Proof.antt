@@ -1,4 +1,4 @@
--- `footer::total_cells` meets its contract: at most 65,536 tiles of at most 1,000,000,000 cells fit. Assumes nothing.
+-- `footer::total_cells` meets its contract: at most 16,777,216 tiles of at most 1,000,000,000 cells fit. Assumes nothing.
 use mathlib.Core.Path.{_≡_}
 use Prim.Native.Nat.{_-_, _*_, _≤_}
 use native.Mathlib.Omega.{arith}
@@ -6,13 +6,13 @@ use native.Mathlib.Nat.{mul-le-mul}
 use borrow.Author.Needs.{needs}
 use borrow.Author.Tests.{ne-eqb}
 use Rattle.description.specs.Limits.{mostTiles, mostCapacity}
-use Rattle.footer.specs.Answer.{refusedChecked, totalCells, allCells}
+use Rattle.footer.specs.Answer.{refusedChecked, totalCells, allCellsBy}
 use Rattle.footer.proofs.Passed.{Ready, ready, checked-number, checked-refused}
 use Rattle.footer.proofs.total_cells.Statement.{statement}
 use Rattle.footer.proofs.total_cells.Tie as tie
 
 returns : tie.Need-returns
-unfolding allCells totalCells refusedChecked
+unfolding allCellsBy totalCells refusedChecked
 returns c =
     let h = c .before .before in
     let a = h .before .before .args in
@@ -32,7 +32,7 @@ product c =
     mul-le-mul {n₂ = mostTiles} {m₂ = mostCapacity} (omega (arith, w .tiles, w .pass .most-tiles)) (w .pass .head .description .most-capacity)
 
 returns-2 : tie.Need-returns-2
-unfolding allCells totalCells
+unfolding allCellsBy totalCells
 returns-2 c =
     let e = c .before .before .before in
     let h = e .before .before in

@@ -15,13 +15,13 @@ use Rattle.answers.specs.Checks.{check}
 use Rattle.answers.proofs.Checks.{stop-check, join-next}
 use Rattle.order.specs.Little.{little}
 use Rattle.description.specs.Limits.{leastTiles, mostTiles, outside}
-use Rattle.lists.specs.Lists.{listRefusal}
+use Rattle.lists.specs.Lists.{listRefusalBy}
 use Rattle.lists.proofs.Header.{neither, others-joined}
 use Rattle.lists.proofs.check_list.Statement.{statement}
 use Rattle.lists.proofs.check_list.Tie as tie
 
 returns : tie.Need-returns
-unfolding listRefusal
+unfolding listRefusalBy
 returns c = c .new .ensures ∙ sym (stop-check _ _ _ _ (sym (c .before .before .outside .ensures) ∙ c .before .if1 .taken) (omega arith))
 
 fits : (width n : ℕ) → Fits w32 width → outside leastTiles mostTiles n ≡ false → 8 + width * n < 2 ^ 64

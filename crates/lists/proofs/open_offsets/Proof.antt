@@ -2,13 +2,13 @@
 -- extents of an accepted list. Assumes nothing.
 use mathlib.Core.Path.{_≡_}
 use borrow.Author.Needs.{needs}
-use Rattle.lists.specs.Offsets.{offsetsRefusal, answered}
+use Rattle.lists.specs.Offsets.{offsetsRefusal, offsetsRefusalBy, answered}
 use Rattle.lists.proofs.Extents.{extents, accepted}
 use Rattle.lists.proofs.open_offsets.Statement.{statement}
 use Rattle.lists.proofs.open_offsets.Tie as tie
 
 returns : tie.Need-returns
-unfolding offsetsRefusal
+unfolding offsetsRefusalBy
 returns c =
     let a = c .before .before .before .before .args in
     let refused = offsetsRefusal (a .tiles) (a .size) (a .body .now) in

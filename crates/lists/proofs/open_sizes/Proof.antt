@@ -1,11 +1,11 @@
 -- `lists::open_sizes` meets its contract, which is the whole check's with the rule of sizes. Assumes nothing.
 use borrow.Author.Needs.{needs}
-use Rattle.lists.specs.Sizes.{sizesRefusal}
+use Rattle.lists.specs.Sizes.{sizesRefusalBy}
 use Rattle.lists.proofs.open_sizes.Statement.{statement}
 use Rattle.lists.proofs.open_sizes.Tie as tie
 
 returns : tie.Need-returns
-unfolding sizesRefusal
+unfolding sizesRefusalBy
 returns c = rw (c .check-entries .ensures)
 
 pub open-sizes-spec : {M : Type 1} → statement M

@@ -3,13 +3,13 @@
 use mathlib.Core.Path.{_≡_}
 use borrow.Author.Needs.{needs}
 use Rattle.lists.specs.Offsets.{answered}
-use Rattle.lists.specs.VarOffsets.{varOffsetsRefusal}
+use Rattle.lists.specs.VarOffsets.{varOffsetsRefusal, varOffsetsRefusalBy}
 use Rattle.lists.proofs.Extents.{var-extents, accepted}
 use Rattle.lists.proofs.open_var_offsets.Statement.{statement}
 use Rattle.lists.proofs.open_var_offsets.Tie as tie
 
 returns : tie.Need-returns
-unfolding varOffsetsRefusal
+unfolding varOffsetsRefusalBy
 returns c =
     let a = c .before .before .before .before .args in
     let refused = varOffsetsRefusal (a .tiles) (a .size) (a .body .now) in

@@ -9,7 +9,7 @@ use Rattle.answers.proofs.Checks.{regroup, last, first-none, join-next}
 use Rattle.description.specs.declared.Description.{Description}
 use Rattle.boxes.specs.declared.Window.{Window}
 use Rattle.boxes.specs.Windows.{windowRefusal}
-use Rattle.query.specs.Query.{askedRefusal}
+use Rattle.query.specs.Query.{askedRefusalBy}
 use Rattle.query.proofs.check_asked.Statement.{statement}
 use Rattle.query.proofs.check_asked.Tie as tie
 
@@ -23,7 +23,7 @@ unfolding windowRefusal
 window-none d w h = first-none _ h
 
 returns : tie.Need-returns
-unfolding askedRefusal
+unfolding askedRefusalBy
 returns c =
     let k = c .before .before .before .before in
     let x = k .before .before .args in

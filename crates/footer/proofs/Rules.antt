@@ -1,0 +1,99 @@
+-- What does a footer answer by other rules? By two that agree on the description and on the footer's own n, the same,
+-- refusals too: the rules are asked in two checks of the list and nowhere else. For at most 65,536 tiles this is so of the
+-- rules of this library and of the earlier ones (`as-before`). An n above the most tiles is refused with 10 at its start
+-- once no check before it refuses; what comes after it is not looked at (`too-many`).
+-- Assumes nothing.
+use mathlib.Core.Path.{_≡_, _∙_}
+use mathlib.Core.Bool.{true}
+use mathlib.Core.List.{List, _++_}
+use Prim.Native.Nat.{ℕ, _≤_, _<_}
+use native.Mathlib.Omega.{arith}
+use borrow.Author.Tests.{lt-ltb}
+use Rattle.answers.specs.Refusals as refusals
+use Rattle.answers.specs.Refusals.{refusal}
+use Rattle.answers.specs.Checks.{otherwise, first}
+use Rattle.answers.specs.declared.Refusal.{Refusal}
+use Rattle.answers.proofs.Checks.{go-on, both-clear, clear, check-clear, stop-check, first-append}
+use Rattle.description.specs.declared.Description.{Description}
+use Rattle.description.specs.Limits.{leastTiles, outside}
+use Rattle.description.specs.Rules.{Rules, current, earlier}
+use Rattle.description.proofs.Tests.{or-true}
+use Rattle.description.proofs.Limits.{within}
+use Rattle.description.proofs.Rules.{Agree, few}
+use Rattle.footer.specs.Fields.{start, tilesOf}
+use Rattle.footer.specs.Checks.{numberOutside, headChecksBy, sizeChecks, checksBeforeTiles, checksFromTilesBy, footerRefusalBy}
+use Rattle.footer.specs.Answer.{checkedAnswer, checkedAnswerBy, footerAnswer, footerAnswerBy, schemaName, schemaNameBy}
+use Rattle.footer.specs.Answer.{tileCells, tileCellsBy, allCells, allCellsBy}
+
+module _ {a b : Rules} (d : Description) (F : ℕ) (footer : List ℕ) (same : Agree a b d (tilesOf d footer)) where
+  pub same-refusal : footerRefusalBy a d F footer ≡ footerRefusalBy b d F footer
+  unfolding footerRefusalBy numberOutside
+  same-refusal = rw (same .described, same .number .tiles)
+
+  pub same-checked : checkedAnswerBy a d F footer ≡ checkedAnswerBy b d F footer
+  unfolding checkedAnswerBy
+  same-checked = rw same-refusal
+
+  pub same-footer : footerAnswerBy a d F footer ≡ footerAnswerBy b d F footer
+  unfolding footerAnswerBy
+  same-footer = rw same-refusal
+
+  pub same-name : schemaNameBy a d F footer ≡ schemaNameBy b d F footer
+  unfolding schemaNameBy
+  same-name = rw same-checked
+
+  pub same-cells : (i : ℕ) → tileCellsBy a d F footer i ≡ tileCellsBy b d F footer i
+  unfolding tileCellsBy
+  same-cells i = rw same-checked
+
+  pub same-total : allCellsBy a d F footer ≡ allCellsBy b d F footer
+  unfolding allCellsBy
+  same-total = rw same-checked
+
+-- every answer about a footer, by this library's rules and by others
+pub record SameAnswers (others : Rules) (d : Description) (F : ℕ) (footer : List ℕ) : Type 0 where
+  pub checked : checkedAnswer d F footer ≡ checkedAnswerBy others d F footer
+  pub numbers : footerAnswer d F footer ≡ footerAnswerBy others d F footer
+  pub name : schemaName d F footer ≡ schemaNameBy others d F footer
+  pub cells : (i : ℕ) → tileCells d F footer i ≡ tileCellsBy others d F footer i
+  pub total : allCells d F footer ≡ allCellsBy others d F footer
+
+-- A footer that says at most 65,536 tiles is answered as before, refusals too.
+pub as-before : (d : Description) (F : ℕ) (footer : List ℕ) → tilesOf d footer ≤ earlier .tiles → SameAnswers earlier d F footer
+as-before d F footer h =
+    let same = few d (tilesOf d footer) h in
+    record {
+      checked = same-checked d F footer same;
+      numbers = same-footer d F footer same;
+      name = same-name d F footer same;
+      cells = same-cells d F footer same;
+      total = same-total d F footer same;
+    }
+
+module _ (rules : Rules) (d : Description) (F : ℕ) (footer : List ℕ) where
+  -- the checks before n, in their order
+  abbrev pub beforeTiles : List Refusal
+  beforeTiles = headChecksBy rules d footer ++ (sizeChecks d footer F ++ checksBeforeTiles d footer)
+
+  -- and those from n on
+  abbrev fromTiles : List Refusal
+  fromTiles = checksFromTilesBy rules d footer F
+
+  parted : footerRefusalBy rules d F footer ≡ otherwise (first beforeTiles) (first fromTiles)
+  unfolding footerRefusalBy
+  parted = first-append beforeTiles fromTiles
+
+  -- A footer that passes has at most as many tiles as the rules have it.
+  pub no-more : footerRefusalBy rules d F footer .number ≡ 0 → tilesOf d footer ≤ rules .tiles
+  unfolding numberOutside
+  no-more h =
+      let from = both-clear (first beforeTiles) (first fromTiles) (rw parted at h) .1 in
+      within leastTiles (rules .tiles) (tilesOf d footer) (check-clear _ _ _ (omega arith) (clear _ _ from .0)) .1
+
+  -- A larger n, in a footer that is sound up to there, is refused with 10 at its start.
+  pub too-many : first beforeTiles .number ≡ 0 → rules .tiles < tilesOf d footer
+      → footerRefusalBy rules d F footer ≡ refusal refusals.tiles (start d footer "tiles")
+  unfolding numberOutside
+  too-many sound more =
+      let above : outside leastTiles (rules .tiles) (tilesOf d footer) ≡ true = rw (lt-ltb _ _ more, or-true) in
+      parted ∙ go-on (first beforeTiles) (first fromTiles) sound ∙ stop-check _ _ _ _ above (omega arith)
