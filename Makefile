@@ -1,10 +1,4 @@
-# Tussockbell: what can be made here.
-#   make report  run the report on a sample fragment, or on the files DESCRIPTION=.. FOOTER=.. TREE=.. OFFSETS=..
-#   make lib     build/libtussockbell.a and build/libtussockbell.so, for include/tussockbell.h
-#   make test    prove every crate, try the must-fail edits, run the programs and the other tests
-#   make test-large
-#                compare trees and lists of 16,777,216 tiles with the rules; takes 1 GB of memory
-#   make bench   measure the library beside plain Rust and two R-tree libraries; writes docs/BENCHMARKS.md
+# Tussockbell. `make help` says what can be made here.
 SHELL := /bin/bash
 
 SAMPLE := tests/fixtures/sample
@@ -13,7 +7,24 @@ FOOTER ?= $(SAMPLE)/footer
 TREE ?= $(SAMPLE)/tree
 OFFSETS ?= $(SAMPLE)/offsets
 
-.PHONY: report lib test test-large bench
+VERSION := $(shell cat VERSION)
+# The name that programs are linked with: it changes when a function that they may call changes.
+SONAME := libtussockbell.so.$(basename $(basename $(VERSION)))
+PREFIX ?= /usr/local
+INSTALL ?= install
+
+.PHONY: help report lib install test test-large bench clean
+
+help:
+	@printf '%s\n' \
+	    'make report   run the report on a sample fragment, or on the files DESCRIPTION=.. FOOTER=.. TREE=.. OFFSETS=..' \
+	    'make lib      build/libtussockbell.a and build/libtussockbell.so, for include/tussockbell.h' \
+	    'make install  the libraries, the header and a pkg-config file below PREFIX=/usr/local' \
+	    'make test     prove every crate, try the must-fail edits, run the programs and the other tests' \
+	    'make test-large  compare trees and lists of 16,777,216 tiles with the rules; takes 1 GB of memory' \
+	    'make bench    measure the library beside plain Rust and two R-tree libraries; writes docs/BENCHMARKS.md' \
+	    'make clean    remove all that was made here' \
+	    'The Python package: pip install bindings/python, after make lib or without it.'
 
 # The program is proved before it is linked; what the prover says goes to build/report.log.
 report:
@@ -36,8 +47,21 @@ build/libtussockbell.a: crates.txt Makefile $(shell find crates -name '*.rt' -o 
 	done
 	@ar rcs $@ build/objects/*.o
 
-build/libtussockbell.so: build/libtussockbell.a
-	@gcc -shared -o $@ -Wl,--whole-archive $< -Wl,--no-whole-archive
+build/libtussockbell.so: build/libtussockbell.a VERSION
+	@gcc -shared -o build/libtussockbell.so.$(VERSION) -Wl,-soname,$(SONAME) \
+	    -Wl,--whole-archive $< -Wl,--no-whole-archive
+	@ln -sf libtussockbell.so.$(VERSION) build/$(SONAME)
+	@ln -sf libtussockbell.so.$(VERSION) $@
+
+install: lib
+	@$(INSTALL) -d '$(DESTDIR)$(PREFIX)/include' '$(DESTDIR)$(PREFIX)/lib/pkgconfig'
+	@$(INSTALL) -m 644 include/tussockbell.h '$(DESTDIR)$(PREFIX)/include'
+	@$(INSTALL) -m 644 build/libtussockbell.a '$(DESTDIR)$(PREFIX)/lib'
+	@$(INSTALL) -m 755 build/libtussockbell.so.$(VERSION) '$(DESTDIR)$(PREFIX)/lib'
+	@ln -sf libtussockbell.so.$(VERSION) '$(DESTDIR)$(PREFIX)/lib/$(SONAME)'
+	@ln -sf libtussockbell.so.$(VERSION) '$(DESTDIR)$(PREFIX)/lib/libtussockbell.so'
+	@sed -e 's|@PREFIX@|$(PREFIX)|' -e 's|@VERSION@|$(VERSION)|' include/tussockbell.pc.in \
+	    > '$(DESTDIR)$(PREFIX)/lib/pkgconfig/tussockbell.pc'
 
 test:
 	@tests/run
@@ -47,3 +71,7 @@ test-large:
 
 bench:
 	@bench/run
+
+clean:
+	@rm -rf build target tests/*/target bindings/rust/target bindings/python/build bench/target
+	@find tests bench bindings -name __pycache__ -type d -exec rm -rf {} +

@@ -1,4 +1,4 @@
-"""Writes docs/BENCHMARKS.md and docs/benchmarks.svg from what the harness printed.
+"""Writes docs/BENCHMARKS.md, docs/benchmarks.svg and docs/benchmarks.tsv from what the harness printed.
 
     page.py OUTPUT DIRECTORY
 """
@@ -68,7 +68,9 @@ def groups(ratios, pictured=False):
     by_kind = [("rust", f"query, {kind}", of("rust", "query", kind)) for kind in KINDS]
     made = by_fanout["rust"] + ([] if pictured else by_kind)
     made += [] if pictured else [("rust", "query, up to 16,777,216 tiles", of("rust", "more tiles"))]
-    made += [("rust", "opening", of("rust", "open")), ("rust", "lists", [*of("rust", "offsets"), *of("rust", "var offsets"), *of("rust", "sizes")])]
+    made += [("rust", "opening", of("rust", "open"))]
+    made += [] if pictured else [("rust", f"opening, {kind}", of("rust", "open", kind)) for kind in KINDS]
+    made += [("rust", "lists", [*of("rust", "offsets"), *of("rust", "var offsets"), *of("rust", "sizes")])]
     for peer in ("boost", "libspatialindex"):
         made += [(peer, f"query, {size} windows", of(peer, "query", size)) for size in ("small", "large")]
         made += [] if pictured else by_fanout[peer]
@@ -101,21 +103,6 @@ def prose(text):
         indent = "  " if flat.startswith("- ") else ""
         wrapped.append(textwrap.fill(flat, 120, subsequent_indent=indent, break_long_words=False, break_on_hyphens=False))
     return "\n\n".join(wrapped).replace("\n\n- ", "\n- ")
-
-
-def query_table(tables, ratios):
-    header = ["Kind", "D", "f", "n", "Window", "Found", "Looked", "Ours", "a box", "Rust", "a box", "Boost", "M", "libsp.", "M"]
-    header += ["/ Rust", "/ Boost", "/ libsp."]
-    rows = []
-    for row in tables["query"]:
-        case = "query/{kind}/D={D}/f={f}/n={n}/{window}".format(**row)
-        cells = [row["kind"], row["D"], row["f"], row["n"], row["window"]]
-        for column in ("found", "looked", "ours ns", "ours ns/box", "rust ns", "rust ns/box"):
-            cells.append(short(row[column]))
-        for peer in ("boost", "libspatialindex"):
-            cells += [short(row[f"{peer} ns"]), row[f"{peer} capacity"]]
-        rows.append(cells + [short(ratios[f"{peer}/{case}"]) for peer in PEERS])
-    return table(header, rows)
 
 
 def pair_table(names, rows, per):
@@ -227,7 +214,7 @@ def page(tables, ratios):
     sections = [
         "# Benchmarks",
         start,
-        "![Left: nanoseconds a query against boxes looked at. Right: ratios of our times to theirs.](benchmarks.svg)",
+        "![Left: nanoseconds a query against boxes looked at, one tree and growing windows. Right: ratios of our times to theirs.](benchmarks.svg)",
         "## Summary",
         summary(ratios),
         "## On what",
@@ -241,12 +228,12 @@ def page(tables, ratios):
         "## More tiles",
         tiles,
         tiles_table(tables["tiles"]),
-        "## Window queries",
-        prose("Found and looked are means a query; times are a query's, and what that is for a box looked at. M is the node capacity."),
-        query_table(tables, ratios),
-        "## Opening",
-        prose("Footer and tree together, every box checked."),
-        pair_table({"kind": "Kind", "D": "D", "f": "f", "n": "n", "bytes": "Bytes"}, tables["open"], "byte"),
+        "## Every case",
+        prose("""
+            `benchmarks.tsv` has every number that was measured, as the harness printed it: tab-parted, the table's name first, and a line
+            with the columns' names before each table's rows. Found and looked are means a query; times are a query's, an opening's (footer
+            and tree together, every box checked) or a list's. A row `ratio` has a case and our time divided by theirs.
+            """),
         "## Lists",
         prose("Checking tile offsets, checking var offsets, and checking and adding up tile sizes."),
         pair_table({"list": "List", "n": "n"}, tables["list"], "entry"),
@@ -289,25 +276,23 @@ def count(value):
 
 
 def costs(tables):
-    """The left panel: a query's time against the boxes that it looks at."""
-    rows, grown = tables["query"], tables["looks"]
-    both = [float(row[f"{who} ns"]) for who in ("ours", "rust") for row in rows + grown]
-    x = Axis(*decades([float(row["looked"]) for row in rows + grown]), 78, 396)
-    y = Axis(*decades(both), 400, 60)
-    made = [text(237, 28, "Time of a query, by boxes looked at", more='font-weight="bold"')]
+    """The left panel: a query's time against the boxes that it looks at, for one tree and growing windows."""
+    grown = tables["looks"]
+    x = Axis(*decades([float(row["looked"]) for row in grown]), 78, 396)
+    y = Axis(*decades([float(row[f"{who} ns"]) for who in ("ours", "rust") for row in grown]), 420, 80)
+    made = [text(237, 62, "Time of a query, one tree, growing windows", more='font-weight="bold"')]
     for value in x.tens():
-        made += [line(x(value), 60, x(value), 400), text(x(value), 417, count(value))]
+        made += [line(x(value), 80, x(value), 420), text(x(value), 437, count(value))]
     for value in y.tens():
         made += [line(78, y(value), 396, y(value)), text(72, y(value) + 4, count(value), "end")]
-    made += [text(237, 440, "boxes looked at"), text(0, 0, "nanoseconds a query", more='transform="translate(16 230) rotate(-90)"')]
+    made += [text(237, 460, "boxes looked at"), text(0, 0, "nanoseconds a query", more='transform="translate(16 250) rotate(-90)"')]
     for who in ("rust", "ours"):
-        made += [dot(x(float(row["looked"])), y(float(row[f"{who} ns"])), COLOURS[who]) for row in rows]
-    for who in ("rust", "ours"):
-        points = " ".join(f"{x(float(row['looked'])):.1f},{y(float(row[f'{who} ns'])):.1f}" for row in grown)
+        places = [(x(float(row["looked"])), y(float(row[f"{who} ns"]))) for row in grown]
+        points = " ".join(f"{across:.1f},{up:.1f}" for across, up in places)
         made.append(f'<polyline points="{points}" fill="none" stroke="{COLOURS[who]}" stroke-width="1.8"/>')
+        made += [dot(across, up, COLOURS[who], 3.2, 0.9) for across, up in places]
     for i, (who, name) in enumerate((("ours", "the library"), ("rust", "plain Rust"))):
-        made += [dot(92, 76 + 18 * i, COLOURS[who], 4, 1), text(102, 80 + 18 * i, name, "start")]
-    made += [line(86, 112, 98, 112, "#374151", 1.8), text(102, 116, "one tree, growing windows", "start")]
+        made += [dot(92, 96 + 18 * i, COLOURS[who], 4, 1), text(102, 100 + 18 * i, name, "start")]
     return made
 
 
@@ -315,26 +300,28 @@ def strips(ratios):
     """The right panel: the ratios, a strip for each group."""
     shown = groups(ratios, pictured=True)
     x = Axis(*decades([value for _, _, values in shown for value in values]), 615, 880)
-    made = [text(747, 28, "Our time / theirs", more='font-weight="bold"')]
+    made = [text(747, 62, "Our time / theirs", more='font-weight="bold"')]
     for value in x.tens():
-        made += [line(x(value), 60, x(value), 400), text(x(value), 417, count(value))]
-    made += [line(x(1), 56, x(1), 400, "#111827", 1.5), text(x(1) - 6, 52, "faster", "end"), text(x(1) + 6, 52, "slower", "start")]
+        made += [line(x(value), 80, x(value), 420), text(x(value), 437, count(value))]
+    made += [line(x(1), 76, x(1), 420, "#111827", 1.5), text(x(1) - 6, 76, "faster", "end"), text(x(1) + 6, 76, "slower", "start")]
     step = 340 / len(shown)
     for i, (peer, name, values) in enumerate(shown):
-        at = 60 + step * (i + 0.5)
+        at = 80 + step * (i + 0.5)
         made.append(text(607, at + 4, f"{PEERS[peer].removesuffix('.Geometry')}, {name.removeprefix('query, ')}", "end"))
         for j, value in enumerate(values):
             made.append(dot(x(value), at + (j * 7 % 11 - 5) * step / 26, COLOURS[peer]))
         made.append(line(x(mean(values)), at - step * 0.36, x(mean(values)), at + step * 0.36, "#111827", 2))
-    made.append(text(747, 440, "ratio; upright bars are geometric means"))
+    made.append(text(747, 460, "ratio; upright bars are geometric means"))
     return made
 
 
 def picture(tables, ratios):
-    size = 'viewBox="0 0 900 456" width="900" height="456"'
+    size = 'viewBox="0 0 900 476" width="900" height="476"'
     start = f'<svg xmlns="http://www.w3.org/2000/svg" {size} font-family="sans-serif" font-size="12" fill="#111827">'
-    ground = '<rect width="900" height="456" fill="#ffffff"/>'
-    return "\n".join([start, ground, *costs(tables), *strips(ratios), "</svg>"]) + "\n"
+    ground = '<rect width="900" height="476" fill="#ffffff"/>'
+    title = "Tussockbell beside plain Rust and two R-tree libraries"
+    named = [f"<title>{title}</title>", text(450, 28, title, more='font-weight="bold" font-size="17"')]
+    return "\n".join([start, ground, *named, *costs(tables), *strips(ratios), "</svg>"]) + "\n"
 
 
 def main():
@@ -342,6 +329,7 @@ def main():
     tables, ratios = read(output.read_text())
     (directory / "benchmarks.svg").write_text(picture(tables, ratios))
     (directory / "BENCHMARKS.md").write_text(page(tables, ratios))
+    (directory / "benchmarks.tsv").write_text(output.read_text())
 
 
 main()

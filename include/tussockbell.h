@@ -26,6 +26,12 @@
 extern "C" {
 #endif
 
+/* The version that this header is of. */
+#define TUSSOCKBELL_VERSION "0.2.0"
+#define TUSSOCKBELL_VERSION_MAJOR 0
+#define TUSSOCKBELL_VERSION_MINOR 2
+#define TUSSOCKBELL_VERSION_PATCH 0
+
 /* Kinds: TileDB's own Datatype numbers. */
 #define TUSSOCKBELL_INT32 0
 #define TUSSOCKBELL_INT64 1
@@ -258,7 +264,9 @@ void tussockbell_sizes(uint64_t tiles, const uint8_t *list, size_t list_length,
                        uint64_t *answer /* [TUSSOCKBELL_SIZES_PLACES] */);
 
 /* The report of the contents of four files: description, footer, tree and offsets. Returns the length of its text,
- * and writes the text at the start of `out` if all of it fits; otherwise `out` stays as it was. */
+ * which is at most TUSSOCKBELL_REPORT_MOST, and writes the text at the start of `out` if all of it fits; otherwise `out`
+ * stays as it was. */
+#define TUSSOCKBELL_REPORT_MOST 688212
 size_t tussockbell_report(const uint8_t *description, size_t description_length, const uint8_t *footer, size_t footer_length,
                           const uint8_t *tree, size_t tree_length, const uint8_t *offsets, size_t offsets_length, uint8_t *out,
                           size_t out_length);

@@ -1,4 +1,4 @@
-"""The Python binding against the reference, the header and the README; its buffers, its window ends and numbers of any size."""
+"""The Python binding against the reference and the header; its buffers, its window ends and numbers of any size."""
 
 import copy
 import ctypes
@@ -14,7 +14,6 @@ import struct
 import subprocess
 import sys
 import tempfile
-import textwrap
 import threading
 import tracemalloc
 import unittest
@@ -758,8 +757,8 @@ class Loading(unittest.TestCase):
 
     def test_found_library(self):
         with tempfile.TemporaryDirectory() as folder:
-            # through a link to the file, which stands in another place
-            os.symlink(root / "bindings/python/tussockbell.py", os.path.join(folder, "tussockbell.py"))
+            # through a link to the folder, which stands in another place
+            os.symlink(root / "bindings/python/tussockbell", os.path.join(folder, "tussockbell"))
             built = "build/libtussockbell.so"
             named = [{"TUSSOCKBELL_LIBRARY": path} for path in ("", built, str(root / built))]
             for variables in (*named, {"PYTHONPATH": folder, "TUSSOCKBELL_LIBRARY": ""}):
@@ -800,14 +799,6 @@ class Usage(unittest.TestCase):
             tree.query([(0, 10), (2.5, -1.5)])
         refused = caught.exception
         self.assertEqual((refused.number, refused.place, refused.which, refused.text), (9, 1, 0, "minimum above maximum"))
-
-    def test_readme(self):
-        """The README's example, run as it stands, prints what the README says."""
-        section = (root / "README.md").read_text().split("## From Python\n")[1].split("\n## ")[0]
-        blocks = re.findall(r"(?:^(?:    .*)?\n)*^    .*\n", section, re.M)
-        code, printed = (textwrap.dedent(block).lstrip("\n") for block in blocks)
-        said = run_python(code)
-        self.assertEqual((said.stdout, said.stderr), (printed, ""))
 
 
 if __name__ == "__main__":

@@ -1,7 +1,10 @@
 """The report program against the reference: the sample damaged at each byte, cut at each length, with each kind of bad description line, and the
 fixtures."""
 
+import os
 import pathlib
+import re
+import resource
 import subprocess
 import sys
 import tempfile
@@ -10,17 +13,19 @@ import unittest
 here = pathlib.Path(__file__).parent
 sys.path.insert(0, str(here.parent / "reference"))
 
+import pieces
 import report as reference
+import rules
 
 PROGRAM = here.parent.parent / "target/bin/report"
 PARTS = ("description", "footer", "tree", "offsets")
 
 
-def said(folder, parts):
+def said(folder, parts, **more):
     """What the program writes of four byte strings."""
     for name, data in zip(PARTS, parts):
         (folder / name).write_bytes(data)
-    return subprocess.run([PROGRAM] + [str(folder / n) for n in PARTS], stdout=subprocess.PIPE, check=True).stdout
+    return subprocess.run([PROGRAM] + [str(folder / n) for n in PARTS], stdout=subprocess.PIPE, check=True, **more).stdout
 
 
 class Report(unittest.TestCase):
@@ -81,15 +86,48 @@ class Report(unittest.TestCase):
             for length in (65535, 65536, 65537, 70000):
                 self.changed(i, data + bytes(length - len(data)))
 
-    def test_missing_arguments_and_files(self):
-        paths = []
+    def test_largest(self):
+        """As many tiles as 65,536 bytes hold, with long numbers, and a stack of 512 KB."""
+        known, n = rules.Description(["int32"], 1, 10**9), 8179
+        leaves = [[(i, i + 1)] for i in range(n)]
+        footer = pieces.Footer(known, [(0, n)], tiles=n, last_cells=10**9)
+        starts = [0] + [2**64 - 10**16 + i * 10**12 for i in range(1, n)]
+        lines = [1, 32, 1, 10**9, footer.file_size, 2**64 - 1, -5, 10**6]
+        tree = pieces.tree(["int32"], leaves, 1024)
+        self.assertEqual(len(tree), 65536)
+        parts = ["".join(f"{line}\n" for line in lines).encode(), footer.data(), tree, pieces.entries(starts)]
+        small = lambda: resource.setrlimit(resource.RLIMIT_STACK, (512 * 1024, 512 * 1024))
+        written = said(self.folder, parts, preexec_fn=small)
+        self.assertEqual(written, reference.report(*parts))
+        self.assertEqual(written.count(b"\n"), 1 + n)
+        self.assertGreater(len(written), 6 * 65536)
+        header = (here.parent.parent / "include/tussockbell.h").read_text()
+        self.assertLessEqual(len(written), int(re.search(r"TUSSOCKBELL_REPORT_MOST (\d+)", header)[1]))
+
+    def test_output_that_fails(self):
+        paths = self.written()
+        with open("/dev/full", "wb") as full:
+            got = subprocess.run([PROGRAM] + paths, stdout=full, stderr=subprocess.PIPE)
+        self.assertEqual(got.stderr, b"standard output: No space left on device\n")
+        got = subprocess.run([PROGRAM] + paths, stderr=subprocess.PIPE, preexec_fn=lambda: os.close(1))
+        self.assertEqual(got.stderr, b"standard output: Bad file descriptor\n")
+
+    def written(self):
+        """The sample's paths."""
         for name, data in zip(PARTS, self.sample):
             (self.folder / name).write_bytes(data)
-            paths.append(str(self.folder / name))
+        return [str(self.folder / name) for name in PARTS]
+
+    def test_wrong_arguments_and_files(self):
+        paths = self.written()
         for number in range(4):
             got = subprocess.run([PROGRAM] + paths[:number], stdout=subprocess.PIPE, stderr=subprocess.PIPE)
-            self.assertEqual(got.stdout, b"")
-            self.assertEqual(got.stderr.count(b"\n"), 1)
+            self.assertEqual((got.stdout, got.stderr), (b"", b"usage: report DESCRIPTION FOOTER TREE OFFSETS\n"))
+        got = subprocess.run([PROGRAM] + paths + ["more", "most"], stdout=subprocess.PIPE, stderr=subprocess.PIPE)
+        self.assertEqual((got.stdout, got.stderr), (b"", b"more: one argument too many\n"))
+        for i, name in enumerate(PARTS):
+            got = subprocess.run([PROGRAM] + paths[:i] + [""] + paths[i + 1 :], stdout=subprocess.PIPE, stderr=subprocess.PIPE)
+            self.assertEqual((got.stdout, got.stderr), (b"", f"{name.upper()}: the argument is empty\n".encode()))
         for i in range(4):
             wrong = paths[:i] + [paths[i] + ".not"] + paths[i + 1 :]
             got = subprocess.run([PROGRAM] + wrong, stdout=subprocess.PIPE, stderr=subprocess.PIPE)

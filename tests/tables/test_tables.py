@@ -6,6 +6,7 @@ A table is found by what it looks like, so that it may move between files. What 
   letter by letter, where it has texts. No other place has a refusal by its number.
 - kinds: the names, the Datatype numbers, each once, and the bytes of a range, as far as a table has them.
 - limits: the least and the most of each number that has them.
+- the version, which VERSION has.
 """
 
 import ast
@@ -17,7 +18,7 @@ import unittest
 
 ROOT = pathlib.Path(__file__).resolve().parents[2]
 HEADER = "include/tussockbell.h"
-PYTHON = "bindings/python/tussockbell.py"
+PYTHON = "bindings/python/tussockbell/__init__.py"
 REFERENCE = "tests/reference/rules.py"
 DIFFERENTIAL = "tests/differential/src/rules.rs"
 PLAIN = "bench/src/plain.rs"
@@ -97,6 +98,18 @@ def reference():
 
 def constants(path, module):
     return re.findall(r"pub const (\w+): u64 = (\d+);", part(read(path), rf"mod {module} \{{", r"^\}"))
+
+
+class Version(unittest.TestCase):
+    def test_version(self):
+        version = read("VERSION").strip()
+        self.assertRegex(version, r"^\d+\.\d+\.\d+$")
+        header = read(HEADER)
+        self.assertEqual(re.findall(r'TUSSOCKBELL_VERSION "(.*)"', header), [version])
+        parts = [re.findall(rf"TUSSOCKBELL_VERSION_{name} (\d+)", header) for name in ("MAJOR", "MINOR", "PATCH")]
+        self.assertEqual(parts, [[one] for one in version.split(".")])
+        self.assertEqual(ast.literal_eval(assigned(PYTHON, "__version__")), version)
+        self.assertEqual(re.findall(r'^version = "(.*)"', read("bindings/rust/Cargo.toml"), re.M), [version])
 
 
 class Same(unittest.TestCase):

@@ -53,10 +53,16 @@ pub use ranges::{Description, Kind, Range};
 pub use refused::{Refused, Which};
 pub use tree::{open_tree, query, Answer, Tree};
 
+/// The version of this crate, which is that of the library and its header.
+pub const VERSION: &str = env!("CARGO_PKG_VERSION");
+
+/// No text of [`report`] is longer.
+pub const REPORT_MOST: usize = 688_212;
+
 /// The report of the contents of four files: description, footer, tree and offsets.
 ///
-/// Returns the length of its text, and writes the text, which is ASCII, at the start of `out` if all of it fits;
-/// otherwise `out` stays as it was.
+/// Returns the length of its text, which is at most [`REPORT_MOST`], and writes the text, which is ASCII, at the start
+/// of `out` if all of it fits; otherwise `out` stays as it was.
 ///
 /// ```
 /// use tussockbell::report;

@@ -1,4 +1,4 @@
-//! What is written both here and elsewhere is the same: the header's numbers and texts, the README's example.
+//! What is written both here and in the header is the same: numbers, texts, the version.
 
 #[allow(dead_code)]
 #[path = "../src/places.rs"]
@@ -9,13 +9,15 @@ use tussockbell::{Description, Kind, Refused, Which};
 
 const HEADER: &str = include_str!("../../../include/tussockbell.h");
 
+const VERSION: &str = "#define TUSSOCKBELL_VERSION";
+
 /// The header's numbers by name, without what all names start with.
 fn defined() -> BTreeMap<&'static str, u64> {
     let number = |line: &'static str| {
         let (name, number) = line.strip_prefix("#define TUSSOCKBELL_")?.split_once(' ')?;
         Some((name, number.parse().expect("a number")))
     };
-    HEADER.lines().filter_map(number).collect()
+    HEADER.lines().filter(|line| !line.starts_with(VERSION)).filter_map(number).collect()
 }
 
 /// The numbers of a part of the header, by name.
@@ -55,6 +57,7 @@ fn places_are_the_headers() {
     let mut places: BTreeMap<_, _> = places::ALL.iter().map(|(name, place)| (*name, *place as u64)).collect();
     // a domain's kinds are the description's, and a list's length is the description's number of fields
     places.extend([("DOMAIN_KIND", 0), ("FOOTER_LIST_PLACES", Description::MOST_FIELDS)]);
+    places.insert("REPORT_MOST", tussockbell::REPORT_MOST as u64);
     assert_eq!(part(|name| !is_kind(name) && !is_refusal(name) && !is_limit(name)), places);
 }
 
@@ -103,9 +106,7 @@ fn refusal_texts_are_the_headers() {
 }
 
 #[test]
-fn the_readme_has_the_example() {
-    let readme = include_str!("../../../README.md");
-    let indented = |line: &str| if line.is_empty() { "\n".into() } else { format!("    {line}\n") };
-    let example: String = include_str!("../examples/touched.rs").lines().map(indented).collect();
-    assert!(readme.contains(&example), "README.md does not have examples/touched.rs as it is");
+fn the_version_is_the_headers() {
+    let line = format!("{VERSION} \"{}\"", tussockbell::VERSION);
+    assert!(HEADER.lines().any(|one| one == line), "the header has not {line}");
 }

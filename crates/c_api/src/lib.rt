@@ -12,7 +12,7 @@ ghost use Rattle.lists.specs.Sizes.{sizesAnswer};
 ghost use Rattle.rtree.specs.Opening.{openAnswer};
 ghost use Rattle.query.specs.Query.{queryAnswer, queryBuffer, Promises};
 ghost use Rattle.decimal.specs.Write.{put};
-ghost use Rattle.report_text.specs.Text.{reportText};
+ghost use Rattle.report_text.specs.Text.{mostText, reportText};
 ghost use Rattle.c_arguments.specs.Described.{describe};
 ghost use Rattle.c_arguments.specs.Windows.{windowOfBytes};
 ghost use Rattle.c_api.specs.Places.{numberPlaces, rangePlaces, domainPlaces, footerPlaces, namePlaces};
@@ -230,6 +230,7 @@ pub extern "C" fn tussockbell_report(
         (now (description .entry)) (now (footer .entry)) (now (tree .entry)) (now (offsets .entry))) ⌝ }
     ensures buffer { λ _. ⌜ now (out .exit) ≡ put (now (out .entry)) 0 (reportText
         (now (description .entry)) (now (footer .entry)) (now (tree .entry)) (now (offsets .entry))) ⌝ }
+    ensures bound { λ r. ⌜ r ≤ mostText ⌝ }
 {
     report_text::report(description, footer, tree, offsets, out)
 }

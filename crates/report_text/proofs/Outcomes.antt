@@ -1,7 +1,7 @@
 -- An outcome has the text of the report: that of a refusal, where the first of the checks that refuses is the one that the code met, or
 -- else the listing, whose tiles are those that the query laid at the start of the buffer.
 -- Assumes nothing.
-use mathlib.Core.Path.{_≡_, refl, ap, _∙_}
+use mathlib.Core.Path.{_≡_, refl, ap, sym, _∙_}
 use mathlib.Core.Bool.{Bool, true, false, not, _||_, cond}
 use mathlib.Core.List.{List, [], _++_}
 use Prim.Native.Nat.{ℕ, _+_, _≤_, _<_}
@@ -9,12 +9,13 @@ use native.Mathlib.Nat.{mul-le-mul-right}
 use native.Mathlib.Omega.{arith}
 use lib.Dec.{ltb, eqb}
 use lib.ListN.{length, getD, drop, length-append, List·getD-append}
-use lib.Seq.{sets, take-all}
+use lib.Seq.{take-all}
 use borrow.Author.Tests.{eq-eqb, ne-eqb, eqb-true, ltb-false}
 use Rattle.answers.specs.Laid.{laid}
 use Rattle.answers.specs.Refusals as refusals
 use Rattle.answers.specs.declared.Refusal.{Refusal}
 use Rattle.answers.proofs.Checks.{past, stop, past-check, stop-check, ended}
+use Rattle.answers.proofs.Laid.{sets-whole}
 use Rattle.answers.proofs.Runs.{over-ext}
 use Rattle.description.specs.declared.Description.{Description}
 use Rattle.boxes.specs.declared.Window.{Window}
@@ -36,6 +37,7 @@ use Rattle.report_text.specs.declared.Outcome.{Outcome}
 use Rattle.report_text.specs.Asked.{askedOf}
 use Rattle.report_text.specs.Text.{mostBytes, isLong, opened, answered, offsetsListed, lastCells, tileText, tilesText, listingText, reportRefusal, answerText, reportText}
 use Rattle.report_text.specs.Code.Writing.{mostFound, Wrote, outcomeText, Ended, Renders}
+use Rattle.report_text.proofs.Writing.{seen-laid}
 
 -- a query's answer
 module _ (d : Description) (n : ℕ) (tree : List ℕ) (w : Window) where
@@ -188,13 +190,14 @@ module _ (description footer tree offsets : List ℕ) where
     renders-answer tiles e h = record { few = h .few; there = h .there; same = h .same ∙ rw (short, e) }
 
 -- what is written is that text
-module _ (text : List ℕ) {offsets tiles : List ℕ} {r : Outcome} (t : Renders text offsets tiles r) {before after : List ℕ} {count : ℕ}
-    (w : Wrote before 0 (outcomeText r offsets tiles) after count) where
+module _ (text : List ℕ) {offsets tiles : List ℕ} {r : Outcome} (t : Renders text offsets tiles r) {from : ℕ} {before after : List ℕ} {count : ℕ}
+    (w : Wrote from before 0 (outcomeText r offsets tiles) after count) where
   pub counted : count ≡ length text
   counted = omega (arith, w .place, ap length (t .same))
 
-  pub written : length text ≤ length before → after ≡ put before 0 text
-  written h =
-      w .there (omega (arith, ap length (t .same)))
-      ∙ ap (λ (x : List ℕ). sets before 0 x) (t .same)
-      ∙ put-fits before 0 text (omega arith)
+  pub seen-of : after ≡ laid (drop from text) before
+  seen-of = w .there ∙ rw (t .same) (seen-laid from text before)
+
+-- all of it, where it fits
+pub written : (text before : List ℕ) → length text ≤ length before → laid (drop 0 text) before ≡ put before 0 text
+written text before h = sym (sets-whole before text) ∙ put-fits before 0 text (omega arith)

@@ -73,6 +73,10 @@ tilesText n last c S offsets tiles m = join (λ k. tileText n last c S offsets (
 abbrev pub mostBytes : ℕ
 mostBytes = 65_536
 
+-- No text is longer: a header and 8,192 lines, which no tree of so many bytes has the tiles for, of 84 bytes each.
+abbrev pub mostText : ℕ
+mostText = 688_212
+
 -- opening and the query, of what the description file says
 module _ (a : Asked) (footer tree : List ℕ) where
   abbrev pub opened : Opened

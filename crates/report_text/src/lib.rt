@@ -8,14 +8,16 @@ use description::Kind;
 use ranges::Range;
 ghost use mathlib.Core.Path.{_≡_};
 ghost use Prim.Native.Nat.{ℕ, _+_, _≤_};
-ghost use lib.ListN.{length, drop, set};
+ghost use lib.ListN.{length, drop};
+ghost use Rattle.answers.specs.Laid.{laid};
 ghost use Rattle.answers.specs.Runs.{filled};
 ghost use Rattle.decimal.specs.Write.{put};
 ghost use Rattle.report_text.specs.Lines.{fromLine};
 ghost use Rattle.report_text.specs.Asked.{dimensionOf, bitsAt, askedOf};
-ghost use Rattle.report_text.specs.Text.{mostBytes, field, piece, refusedText, headerText, rowText, tileText, answerText, reportText};
+ghost use Rattle.report_text.specs.Text.{mostBytes, mostText, field, piece, refusedText, headerText, rowText};
+ghost use Rattle.report_text.specs.Text.{tileText, answerText, reportText};
 ghost use Rattle.report_text.specs.Code.Reading.{Starts, Parts, ReadLine, ReadSide, ReadWidths, ReadWindow};
-ghost use Rattle.report_text.specs.Code.Writing.{mostWritten, mostFound, Wrote, Ended, listed, outcomeText, Renders};
+ghost use Rattle.report_text.specs.Code.Writing.{mostWritten, mostFound, kept, Wrote, Ended, listed, outcomeText, Renders};
 
 // Answers the length of the text. It stands at the start of the buffer if all of it fits there; else the buffer stays
 // as it was.
@@ -31,16 +33,38 @@ pub fn report(
         (reportText (now (description .entry)) (now (footer .entry)) (now (tree .entry)) (now (offsets .entry))))
         × (now (out .exit) ≡ put (now (out .entry)) 0
         (reportText (now (description .entry)) (now (footer .entry)) (now (tree .entry)) (now (offsets .entry)))) ⌝ }
+    ensures bound { λ r. ⌜ r ≤ mostText ⌝ }
 {
     // A tree of at most 65,536 bytes has fewer tiles.
     let mut tiles = [0u32; 8_192];
     let outcome = work_out(description, footer, tree, offsets, &mut tiles);
     let mut nowhere = [0u8; 1];
-    let count = write_outcome(outcome, offsets, &tiles, &mut nowhere);
+    let count = write_outcome(outcome, offsets, &tiles, 0, &mut nowhere);
     if count <= out.len() {
-        write_outcome(outcome, offsets, &tiles, out);
+        write_outcome(outcome, offsets, &tiles, 0, out);
     }
     count
+}
+
+// The same text from one of its bytes on, as many bytes as fit. Answers the length of the whole text.
+pub fn report_from(
+    description: &[u8],
+    footer: &[u8],
+    tree: &[u8],
+    offsets: &[u8],
+    from: usize,
+    out: &mut [u8],
+) -> usize
+    ensures length { λ r. ⌜ r ≡ length
+        (reportText (now (description .entry)) (now (footer .entry)) (now (tree .entry)) (now (offsets .entry))) ⌝ }
+    ensures buffer { λ _. ⌜ now (out .exit) ≡ laid (drop from
+        (reportText (now (description .entry)) (now (footer .entry)) (now (tree .entry)) (now (offsets .entry))))
+        (now (out .entry)) ⌝ }
+    ensures bound { λ r. ⌜ r ≤ mostText ⌝ }
+{
+    let mut tiles = [0u32; 8_192];
+    let outcome = work_out(description, footer, tree, offsets, &mut tiles);
+    write_outcome(outcome, offsets, &tiles, from, out)
 }
 
 const MOST_BYTES: usize = 65_536;
@@ -356,113 +380,146 @@ fn read_window(text: &[u8], at: usize, d: usize, bits: [u64; 4]) -> WindowLines
     }
 }
 
-// A byte goes to its place of the buffer, if the buffer has that place.
-fn keep(out: &mut [u8], at: usize, byte: u8)
-    ensures { λ _. ⌜ now (out .exit) ≡ set (now (out .entry)) at byte ⌝ }
+// What is written goes to a place of the text. The buffer has the text from byte `from` on, as many bytes as fit.
+
+fn keep(out: &mut [u8], from: usize, at: usize, byte: u8)
+    ensures { λ _. ⌜ now (out .exit) ≡ kept from (now (out .entry)) at byte ⌝ }
 {
-    if at < out.len() {
-        out[at] = byte;
+    if from <= at {
+        let place = at - from;
+        if place < out.len() {
+            out[place] = byte;
+        }
     }
 }
 
-// What is written goes to a place of the buffer, if the buffer has room for it. The answer is where the next goes.
-
-fn write_word(word: &[u8], out: &mut [u8], at: usize) -> usize
+// The answer is where the next goes.
+fn write_word(word: &[u8], from: usize, out: &mut [u8], at: usize) -> usize
     requires { ⌜ at + length (now word) ≤ mostWritten ⌝ }
-    ensures { λ r. ⌜ (Wrote (now (out .entry)) at (now (word .entry)) (now (out .exit)) r)
-        × (r ≤ at + length (now (word .entry))) ⌝ }
+    ensures { λ r. ⌜ Wrote from (now (out .entry)) at (now (word .entry)) (now (out .exit)) r ⌝ }
 {
     let mut i: usize = 0;
     while i < word.len() {
-        keep(out, at + i, word[i]);
+        keep(out, from, at + i, word[i]);
         i += 1;
     }
     at + i
 }
 
 // A number, and the byte after it.
-fn write_field(n: u64, end: u8, out: &mut [u8], at: usize) -> usize
-    requires { ⌜ at ≤ mostWritten ⌝ }
-    ensures { λ r. ⌜ (Wrote (now (out .entry)) at (field n end) (now (out .exit)) r) × (r ≤ at + 21) ⌝ }
+fn write_field(n: u64, end: u8, from: usize, out: &mut [u8], at: usize) -> usize
+    requires { ⌜ at + 21 ≤ mostWritten ⌝ }
+    ensures { λ r. ⌜ (Wrote from (now (out .entry)) at (field n end) (now (out .exit)) r) × (r ≤ at + 21) ⌝ }
 {
-    let last = at + decimal::write_u64(n, out, at);
-    keep(out, last, end);
+    let mut digits = [0u8; 20];
+    let count = decimal::write_u64(n, &mut digits, 0);
+    let last = write_word(&digits[..count], from, out, at);
+    keep(out, from, last, end);
     last + 1
 }
 
-fn write_piece(word: &[u8], n: u64, end: u8, out: &mut [u8], at: usize) -> usize
-    requires { ⌜ at + length (now word) ≤ mostWritten ⌝ }
-    ensures { λ r. ⌜ (Wrote (now (out .entry)) at (piece (now (word .entry)) n end) (now (out .exit)) r)
+fn write_piece(word: &[u8], n: u64, end: u8, from: usize, out: &mut [u8], at: usize) -> usize
+    requires { ⌜ at + length (now word) + 21 ≤ mostWritten ⌝ }
+    ensures { λ r. ⌜ (Wrote from (now (out .entry)) at (piece (now (word .entry)) n end) (now (out .exit)) r)
         × (r ≤ at + length (now (word .entry)) + 21) ⌝ }
 {
-    let next = write_word(word, out, at);
-    write_field(n, end, out, next)
+    let next = write_word(word, from, out, at);
+    write_field(n, end, from, out, next)
 }
 
-fn write_refused(number: u64, place: u64, out: &mut [u8]) -> usize
-    ensures { λ r. ⌜ Wrote (now (out .entry)) 0 (refusedText number place) (now (out .exit)) r ⌝ }
+fn write_refused(number: u64, place: u64, from: usize, out: &mut [u8]) -> usize
+    ensures { λ r. ⌜ (Wrote from (now (out .entry)) 0 (refusedText number place) (now (out .exit)) r) × (r ≤ 84) ⌝ }
 {
-    let next = write_piece(b"refused\t", number, b'\t', out, 0);
-    write_field(place, b'\n', out, next)
+    let next = write_piece(b"refused\t", number, b'\t', from, out, 0);
+    write_field(place, b'\n', from, out, next)
 }
 
-fn write_header(tiles: u64, found: u64, looked: u64, out: &mut [u8]) -> usize
-    ensures { λ r. ⌜ (Wrote (now (out .entry)) 0 (headerText tiles found looked) (now (out .exit)) r) × (r ≤ 100) ⌝ }
+fn write_header(tiles: u64, found: u64, looked: u64, from: usize, out: &mut [u8]) -> usize
+    ensures { λ r. ⌜ (Wrote from (now (out .entry)) 0 (headerText tiles found looked) (now (out .exit)) r)
+        × (r ≤ 84) ⌝ }
 {
-    let first = write_piece(b"tiles\t", tiles, b'\t', out, 0);
-    let second = write_piece(b"found\t", found, b'\t', out, first);
-    write_piece(b"looked\t", looked, b'\n', out, second)
+    let first = write_piece(b"tiles\t", tiles, b'\t', from, out, 0);
+    let second = write_piece(b"found\t", found, b'\t', from, out, first);
+    write_piece(b"looked\t", looked, b'\n', from, out, second)
 }
 
-fn write_row(tile: u64, offset: u64, extent: u64, cells: u64, out: &mut [u8], at: usize) -> usize
-    requires { ⌜ at + 100 ≤ mostWritten ⌝ }
-    ensures { λ r. ⌜ (Wrote (now (out .entry)) at (rowText tile offset extent cells) (now (out .exit)) r)
-        × (r ≤ at + 100) ⌝ }
+fn write_row(
+    tile: u64,
+    offset: u64,
+    extent: u64,
+    cells: u64,
+    from: usize,
+    out: &mut [u8],
+    at: usize,
+) -> usize
+    requires { ⌜ at + 84 ≤ mostWritten ⌝ }
+    ensures { λ r. ⌜ (Wrote from (now (out .entry)) at (rowText tile offset extent cells) (now (out .exit)) r)
+        × (r ≤ at + 84) ⌝ }
 {
-    let first = write_field(tile, b'\t', out, at);
-    let second = write_field(offset, b'\t', out, first);
-    let third = write_field(extent, b'\t', out, second);
-    write_field(cells, b'\n', out, third)
+    let first = write_field(tile, b'\t', from, out, at);
+    let second = write_field(offset, b'\t', from, out, first);
+    let third = write_field(extent, b'\t', from, out, second);
+    write_field(cells, b'\n', from, out, third)
 }
 
 // The line of a tile.
-fn write_tile(outcome: Outcome, offsets: &[u8], tile: u64, out: &mut [u8], at: usize) -> usize
-    requires { ⌜ at + 100 ≤ mostWritten ⌝ }
-    ensures { λ r. ⌜ (Wrote (now (out .entry)) at
+fn write_tile(
+    outcome: Outcome,
+    offsets: &[u8],
+    tile: u64,
+    from: usize,
+    out: &mut [u8],
+    at: usize,
+) -> usize
+    requires { ⌜ at + 84 ≤ mostWritten ⌝ }
+    ensures { λ r. ⌜ (Wrote from (now (out .entry)) at
         (tileText (outcome .tiles) (outcome .«last_cells») (outcome .capacity) (outcome .«data_size»)
-        (now (offsets .entry)) tile) (now (out .exit)) r) × (r ≤ at + 100) ⌝ }
+        (now (offsets .entry)) tile) (now (out .exit)) r) × (r ≤ at + 84) ⌝ }
 {
     let part = lists::extent_at(offsets, outcome.tiles, outcome.data_size, tile);
     let cells = footer::cells_at(outcome.tiles, outcome.last_cells, outcome.capacity, tile);
-    write_row(tile, part.offset, part.extent, cells, out, at)
+    write_row(tile, part.offset, part.extent, cells, from, out, at)
 }
 
 // The header, and the line of each tile.
-fn write_listing(outcome: Outcome, offsets: &[u8], tiles: &[u32], out: &mut [u8]) -> usize
+fn write_listing(
+    outcome: Outcome,
+    offsets: &[u8],
+    tiles: &[u32],
+    from: usize,
+    out: &mut [u8],
+) -> usize
     requires { ⌜ (outcome .found ≤ mostFound) × (outcome .found ≤ length (now tiles)) ⌝ }
-    ensures { λ r. ⌜ Wrote (now (out .entry)) 0
-        (listed outcome (now (offsets .entry)) (now (tiles .entry)) (outcome .found)) (now (out .exit)) r ⌝ }
+    ensures { λ r. ⌜ (Wrote from (now (out .entry)) 0
+        (listed outcome (now (offsets .entry)) (now (tiles .entry)) (outcome .found)) (now (out .exit)) r)
+        × (r ≤ mostText) ⌝ }
 {
     let found = outcome.found as usize;
-    let mut at = write_header(outcome.tiles, outcome.found, outcome.looked, out);
+    let mut at = write_header(outcome.tiles, outcome.found, outcome.looked, from, out);
     let mut i: usize = 0;
     while i < found {
-        at = write_tile(outcome, offsets, tiles[i] as u64, out, at);
+        at = write_tile(outcome, offsets, tiles[i] as u64, from, out, at);
         i += 1;
     }
     at
 }
 
-fn write_outcome(outcome: Outcome, offsets: &[u8], tiles: &[u32], out: &mut [u8]) -> usize
+fn write_outcome(
+    outcome: Outcome,
+    offsets: &[u8],
+    tiles: &[u32],
+    from: usize,
+    out: &mut [u8],
+) -> usize
     requires { ⌜ (outcome .found ≤ mostFound) × (outcome .found ≤ length (now tiles)) ⌝ }
-    ensures { λ r. ⌜ Wrote (now (out .entry)) 0
-        (outcomeText outcome (now (offsets .entry)) (now (tiles .entry))) (now (out .exit)) r ⌝ }
+    ensures { λ r. ⌜ (Wrote from (now (out .entry)) 0
+        (outcomeText outcome (now (offsets .entry)) (now (tiles .entry))) (now (out .exit)) r) × (r ≤ mostText) ⌝ }
 {
     if outcome.long {
-        return write_word(b"too long\n", out, 0);
+        return write_word(b"too long\n", from, out, 0);
     }
     if outcome.number != 0 {
-        return write_refused(outcome.number, outcome.place, out);
+        return write_refused(outcome.number, outcome.place, from, out);
     }
-    write_listing(outcome, offsets, tiles, out)
+    write_listing(outcome, offsets, tiles, from, out)
 }

@@ -5,19 +5,19 @@ use native.Mathlib.Omega.{arith}
 use lib.ListN.{getD}
 use Rattle.report_text.specs.Text.{tileText, tilesText}
 use Rattle.report_text.specs.Code.Writing.{Wrote}
-use Rattle.report_text.proofs.Writing.{wrote-append, wrote-nothing, tiles-none, tiles-more}
+use Rattle.report_text.proofs.Writing.{wrote-append, wrote-nothing, wrote-size, tiles-none, tiles-more}
 use borrow.Author.Needs.{needs}
 use Rattle.report_text.proofs.write_listing.Statement.{statement}
 use Rattle.report_text.proofs.write_listing.Tie as tie
 
 abbrev Inv-loop : tie.InvT-loop
-Inv-loop outcome offsets tiles out₀ found at₀ i₀ out at i =
+Inv-loop outcome offsets tiles from out₀ found at₀ i₀ out at i =
     (i ≤ found)
-    × (at ≤ 100 * (i + 1))
-    × (Wrote out₀ at₀ (tilesText (outcome .tiles) (outcome .«last_cells») (outcome .capacity) (outcome .«data_size») offsets tiles i) out at)
+    × (at ≤ 84 * (i + 1))
+    × (Wrote from out₀ at₀ (tilesText (outcome .tiles) (outcome .«last_cells») (outcome .capacity) (outcome .«data_size») offsets tiles i) out at)
 
 abbrev μ-loop : tie.MeasureT-loop
-μ-loop outcome offsets tiles out₀ found at₀ i₀ out at i = found - i
+μ-loop outcome offsets tiles from out₀ found at₀ i₀ out at i = found - i
 
 loop-holds : tie.Need-loop-holds Inv-loop μ-loop
 loop-holds c =
@@ -25,7 +25,7 @@ loop-holds c =
     let t = x .outcome in (
       omega arith,
       c .before .before .write-header .ensures .1,
-      rw (tiles-none (t .tiles) (t .«last_cells») (t .capacity) (t .«data_size») (x .offsets .now) (x .tiles .now)) (wrote-nothing _ _),
+      rw (tiles-none (t .tiles) (t .«last_cells») (t .capacity) (t .«data_size») (x .offsets .now) (x .tiles .now)) (wrote-nothing _ _ _),
     )
 
 loop-again : tie.Need-loop-again Inv-loop μ-loop
@@ -44,10 +44,10 @@ returns : tie.Need-returns Inv-loop μ-loop
 returns c =
     let l = c .before in
     let e : l .loop .i ≡ l .before .before .before .before .before .before .before .before .args .outcome .found = omega arith in
-    wrote-append (l .before .before .before .write-header .ensures .0) (rw e at (l .loop .inv .2))
+    (wrote-append (l .before .before .before .write-header .ensures .0) (rw e at (l .loop .inv .2)), omega arith)
 
 same-length : tie.Need-same-length Inv-loop μ-loop
-same-length c = c .before .loop .inv .2 .size ∙ c .before .before .before .before .write-header .ensures .0 .size
+same-length c = wrote-size (c .before .loop .inv .2) ∙ wrote-size (c .before .before .before .before .write-header .ensures .0)
 
 pub write-listing-spec : {M : Type 1} → statement M
 write-listing-spec =

@@ -1,4 +1,5 @@
 -- `report_text::write_outcome` meets its contract: by what was found out. Assumes nothing.
+use native.Mathlib.Omega.{arith}
 use borrow.Author.Tests.{eq-eqb, ne-eqb}
 use Rattle.report_text.specs.Code.Writing.{outcomeText}
 use borrow.Author.Needs.{needs}
@@ -7,15 +8,23 @@ use Rattle.report_text.proofs.write_outcome.Tie as tie
 
 returns : tie.Need-returns
 unfolding outcomeText
-returns c = rw (c .before .before .before .before .before .if1 .taken) (c .before .before .write-word .ensures .0)
+returns c =
+    let w = c .before .before .write-word .ensures in
+    (rw (c .before .before .before .before .before .if1 .taken) w, omega (arith, w .place))
 
 returns-2 : tie.Need-returns-2
 unfolding outcomeText
-returns-2 c = rw (c .before .before .before .before .before .before .if1 .left, ne-eqb _ 0 (c .before .before .before .before .if2 .taken)) (c .before .before .write-refused .ensures)
+returns-2 c =
+    let w = c .before .before .write-refused .ensures in (
+      rw (c .before .before .before .before .before .before .if1 .left, ne-eqb _ 0 (c .before .before .before .before .if2 .taken)) (w .0),
+      omega (arith, w .1),
+    )
 
 returns-3 : tie.Need-returns-3
 unfolding outcomeText
-returns-3 c = rw (c .before .before .before .before .before .before .if1 .left, eq-eqb _ 0 (c .before .before .before .before .if2 .left)) (c .before .before .write-listing .ensures)
+returns-3 c =
+    let w = c .before .before .write-listing .ensures in
+    (rw (c .before .before .before .before .before .before .if1 .left, eq-eqb _ 0 (c .before .before .before .before .if2 .left)) (w .0), w .1)
 
 pub write-outcome-spec : {M : Type 1} → statement M
 write-outcome-spec =

@@ -9,7 +9,7 @@ returns : tie.Need-returns
 returns c =
     let w = c .before .before .before .before .before .before .write-word .ensures in
     let n = c .before .before .write-field .ensures in
-    (wrote-append (w .0) (n .0), omega (arith, w .1, n .1))
+    (wrote-append w (n .0), omega (arith, w .place, n .1))
 
 pub write-piece-spec : {M : Type 1} → statement M
 write-piece-spec = tie.close (tie.spec (λ c κs. search needs) (λ c κs. search needs) (λ c. search needs) returns)

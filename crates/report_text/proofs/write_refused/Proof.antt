@@ -1,4 +1,5 @@
 -- `report_text::write_refused` meets its contract: piece by piece. Assumes nothing.
+use native.Mathlib.Omega.{arith}
 use borrow.Author.Needs.{needs}
 use Rattle.report_text.specs.Text.{refusedText}
 use Rattle.report_text.proofs.Writing.{wrote-append}
@@ -9,7 +10,9 @@ returns : tie.Need-returns
 unfolding refusedText
 returns c =
     let f = c .before .before in
-    wrote-append (f .before .before .before .before .write-piece .ensures .0) (f .write-field .ensures .0)
+    let a = f .before .before .before .before .write-piece .ensures in
+    let b = f .write-field .ensures in
+    (wrote-append (a .0) (b .0), omega (arith, a .1, b .1))
 
 pub write-refused-spec : {M : Type 1} → statement M
 write-refused-spec =

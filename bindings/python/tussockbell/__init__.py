@@ -17,8 +17,10 @@ Bytes may be bytes, a bytearray, a memoryview or an mmap, read-only or not. They
 copy; only a memoryview whose bytes do not lie one after the other is copied first. Anything that has no bytes to lend is a
 TypeError.
 
-The library is the file that the environment variable TUSSOCKBELL_LIBRARY names, else build/libtussockbell.so of the checkout
-that this file is in. All functions may be called from several threads at once.
+The library is the file that the environment variable TUSSOCKBELL_LIBRARY names, else the one that was installed with this
+package, else build/libtussockbell.so of the checkout that it is in. All functions may be called from several threads at once.
+
+`python3 -m tussockbell --help` says what the same does at the command line.
 """
 
 from __future__ import annotations
@@ -40,6 +42,8 @@ __all__ = [
     "Description", "Footer", "Hit", "Offsets", "Refused", "Tree", "Window",
     "open_tree", "query", "read_footer", "tile_offsets", "tile_sizes", "var_tile_offsets",
 ]
+
+__version__ = "0.2.0"
 
 Bytes = Union[bytes, bytearray, memoryview, mmap.mmap]
 Kind = Union[str, SupportsIndex, None]
@@ -104,8 +108,9 @@ _FOOTER_LISTS = {
 
 
 def _load() -> ctypes.CDLL:
-    built = pathlib.Path(__file__).resolve().parents[2] / "build" / "libtussockbell.so"
-    path = os.path.abspath(os.environ.get("TUSSOCKBELL_LIBRARY") or built)
+    here = pathlib.Path(__file__).resolve()
+    installed, built = here.with_name("libtussockbell.so"), here.parents[3] / "build" / "libtussockbell.so"
+    path = os.path.abspath(os.environ.get("TUSSOCKBELL_LIBRARY") or (installed if installed.exists() else built))
     try:
         return ctypes.CDLL(path)
     except OSError as error:
