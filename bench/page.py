@@ -116,6 +116,27 @@ def pair_table(names, rows, per):
     return table(header, made)
 
 
+def batch_table(rows):
+    header = ["Kind", "D", "n", "Window", "Found", "Looked", "Batch", "Single", "/ single"]
+    made = []
+    for row in rows:
+        known = [row["kind"], row["D"], row["n"], row["window"], short(row["found"]), short(row["looked"])]
+        made.append([*known, short(row["batch ns"]), short(row["single ns"]), short(float(row["batch ns"]) / float(row["single ns"]))])
+    return table(header, made)
+
+
+def python_table(rows):
+    header = ["Window", "Found", "Looked", "Single", "List", "/ single", "Buffer", "/ single"]
+    made = []
+    for row in rows:
+        single = float(row["single ns"])
+        cells = [row["window"], short(row["found"]), short(row["looked"]), short(single)]
+        for way in ("list ns", "buffer ns"):
+            cells += [short(row[way]), short(float(row[way]) / single)]
+        made.append(cells)
+    return table(header, made)
+
+
 def grown(rows, by, per):
     """What one costs us while their number grows."""
     numbers = [float(row[by]) for row in rows]
@@ -237,6 +258,12 @@ def page(tables, ratios):
         "## Lists",
         prose("Checking tile offsets, checking var offsets, and checking and adding up tile sizes."),
         pair_table({"list": "List", "n": "n"}, tables["list"], "entry"),
+        "## A batch of 32 windows",
+        prose("One call for 32 windows beside 32 single calls of the library, through C; f = 16. Times are a window's."),
+        batch_table(tables["batch"]),
+        prose("""The same through Python, over 4,096 tiles of two float64 dimensions at f = 16: 32 calls of `query`, one of `query_batch` with a
+            list of windows, and one with a buffer of them."""),
+        python_table(tables["python"]),
     ]
     return "\n\n".join(sections) + "\n"
 

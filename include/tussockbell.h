@@ -76,6 +76,7 @@ extern "C" {
 #define TUSSOCKBELL_REFUSED_TILE_OFFSETS 18
 #define TUSSOCKBELL_REFUSED_WINDOW 19
 #define TUSSOCKBELL_REFUSED_SUM 20
+#define TUSSOCKBELL_REFUSED_RUNS 22
 
 /* The text of a refusal number. */
 static inline const char *tussockbell_refusal_text(uint64_t number)
@@ -123,6 +124,8 @@ static inline const char *tussockbell_refusal_text(uint64_t number)
         return "the window's dimension number or a kind differs";
     case TUSSOCKBELL_REFUSED_SUM:
         return "tile sizes add up past 2^64 - 1";
+    case TUSSOCKBELL_REFUSED_RUNS:
+        return "the answer run is not as long as the query run";
     default:
         return "no refusal number";
     }
@@ -182,6 +185,13 @@ static inline const char *tussockbell_refusal_text(uint64_t number)
 #define TUSSOCKBELL_QUERY_LOOKED 3
 #define TUSSOCKBELL_QUERY_PLACES 4
 
+/* tussockbell_query_batch. Its records are five places for each window: those of tussockbell_query, and the places of
+ * the result buffer that the window used. */
+#define TUSSOCKBELL_BATCH_WINDOWS 2
+#define TUSSOCKBELL_BATCH_PLACES 3
+#define TUSSOCKBELL_RECORD_USED 4
+#define TUSSOCKBELL_RECORD_PLACES 5
+
 /* tussockbell_offsets and tussockbell_var_offsets */
 #define TUSSOCKBELL_OFFSETS_TILES 2
 #define TUSSOCKBELL_OFFSETS_PLACES 3
@@ -234,6 +244,20 @@ void tussockbell_query(const uint8_t *kinds, size_t kinds_length, uint64_t field
                        const uint8_t *tree, size_t tree_length, const uint8_t *window_kinds, size_t window_kinds_length,
                        const uint8_t *window_ends, size_t window_ends_length, uint32_t *out, size_t out_length,
                        uint64_t *answer /* [TUSSOCKBELL_QUERY_PLACES] */);
+
+/* All windows of a batch in one call, any number of them. Each window is answered as tussockbell_query answers it alone
+ * with what the earlier windows left of `out`: the record of a window has what that answers, and the places of `out`
+ * that it used, which follow those of the windows before it; a refused window uses none, and the next is still asked.
+ * All windows have the kind numbers `window_kinds`, and `windows` holds their bytes, one window after the other: for
+ * each number the minimum and the maximum. A number that is no kind counts as int32's 8 bytes, and of more than four
+ * numbers the first four count. `records` has TUSSOCKBELL_RECORD_PLACES for each window. The answer has how many windows
+ * were answered. Where `records_length` or `windows_length` is not that of a whole number of windows, or the two are not
+ * those of the same number, the batch is refused with TUSSOCKBELL_REFUSED_RUNS at 0, before anything else is looked at,
+ * and nothing is written to `records` or `out`. No other refusal is about the whole batch. */
+void tussockbell_query_batch(const uint8_t *kinds, size_t kinds_length, uint64_t fields, uint64_t capacity, uint64_t tiles,
+                             const uint8_t *tree, size_t tree_length, const uint8_t *window_kinds, size_t window_kinds_length,
+                             const uint8_t *windows, size_t windows_length, uint64_t *records, size_t records_length,
+                             uint32_t *out, size_t out_length, uint64_t *answer /* [TUSSOCKBELL_BATCH_PLACES] */);
 
 /* Checks the tile offsets of a data file of `size` bytes. */
 void tussockbell_offsets(uint64_t tiles, uint64_t size, const uint8_t *list, size_t list_length,

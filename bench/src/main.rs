@@ -29,10 +29,13 @@ const MIX: [Kind; 4] = [Kind::Float64, Kind::Int32, Kind::Float32, Kind::Int64];
 /// So many small windows that their branches can't be learnt by heart.
 const SMALL: usize = 1024;
 const LARGE: usize = 32;
+/// So many windows to a batch, over trees of this fanout.
+const BATCH: usize = 32;
+const BATCH_FANOUT: usize = 16;
 const LEAST: Duration = Duration::from_micros(600);
 const TRIALS: usize = 3;
 
-const TABLES: [(&str, &str); 7] = [
+const TABLES: [(&str, &str); 8] = [
     ("run", "rounds\tleast us\ttrials\tsmall windows\tlarge windows\tboost capacities\tlibspatialindex capacities"),
     (
         "query",
@@ -47,6 +50,7 @@ const TABLES: [(&str, &str); 7] = [
         "f\tn\tfound\tlooked\tours ns\tours ns/box\trust ns\trust ns/box\tboost ns\tboost capacity\tlibspatialindex ns\tlibspatialindex capacity",
     ),
     ("bytes", "bytes\tours ns\tours ns/byte\trust ns\trust ns/byte"),
+    ("batch", "kind\tD\tn\twindow\tfound\tlooked\tbatch ns\tsingle ns"),
 ];
 
 type Run<'a> = Box<dyn FnMut() + 'a>;
@@ -139,6 +143,40 @@ impl Asked {
 
     fn runs(&self, tree: usize, windows: &Range<usize>) -> [Run<'_>; 2] {
         [self.run(windows, move |w, out| self.ours(tree, w, out)), self.run(windows, move |w, out| self.plain(tree, w, out))]
+    }
+
+    /// The windows in batches, and one after the other with what the earlier ones of the same batch left of the buffer: how many tiles were found.
+    fn batched(&self, batches: &[Vec<u8>], records: &mut [[u64; 5]; BATCH], out: &mut [u32]) -> u64 {
+        let (k, n, mut found) = (&self.kinds, self.tiles as u64, 0);
+        for windows in batches {
+            assert_eq!(peers::query_batch(k, FIELDS, CAPACITY, n, &self.trees[0], black_box(windows), records, out), [0, 0, BATCH as u64]);
+            found += records.iter().map(|record| record[2]).sum::<u64>();
+        }
+        found
+    }
+
+    fn single(&self, out: &mut [u32]) -> u64 {
+        let mut all = 0;
+        for first in (0..self.windows.len()).step_by(BATCH) {
+            let mut rest = &mut out[..];
+            for window in first..first + BATCH {
+                let found = self.ours(0, black_box(window), rest)[2];
+                all += found;
+                rest = &mut rest[found as usize..];
+            }
+        }
+        all
+    }
+
+    fn batch_runs(&self) -> [Run<'_>; 2] {
+        let batches: Vec<Vec<u8>> = self.windows.chunks(BATCH).map(<[Vec<u8>]>::concat).collect();
+        let (mut records, mut out, mut again) = ([[0; 5]; BATCH], vec![0; BATCH * self.tiles], vec![0; BATCH * self.tiles]);
+        assert_eq!(self.batched(&batches, &mut records, &mut out), self.single(&mut again));
+        assert_eq!(out, again);
+        [
+            Box::new(move || _ = black_box(self.batched(&batches, &mut records, &mut out))),
+            Box::new(move || _ = black_box(self.single(&mut again))),
+        ]
     }
 
     fn peer_run<'a>(&self, peer: &'a Peer, windows: &Range<usize>) -> Run<'a> {
@@ -311,6 +349,24 @@ impl Bench {
         }
     }
 
+    /// Windows in batches beside single calls.
+    fn batch_cases(&mut self) {
+        for kinds in [vec![Kind::Int32], vec![Kind::Float64; 2], MIX.to_vec()] {
+            let (kind, d) = (described(&kinds), kinds.len());
+            for n in TILES {
+                let leaves = data::leaves(d, n);
+                for (size, windows) in [("small", data::windows(d, 4.0 / n as f64, SMALL)), ("large", data::windows(d, 0.1, LARGE))] {
+                    let asked = Asked::new(&kinds, &leaves, &windows, &[BATCH_FANOUT]);
+                    let (found, looked) = asked.agree(&asked.all(), &[])[0];
+                    let taken: Vec<f64> = measure(asked.batch_runs().into(), self.rounds).iter().map(|t| t / windows.len() as f64).collect();
+                    let row = format!("{kind}\t{d}\t{n}\t{size}\t{found:.1}\t{looked:.1}");
+                    self.rows.push(format!("batch\t{row}\t{:.1}\t{:.1}", taken[0], taken[1]));
+                    self.ratio(format!("single/batch/{kind}/D={d}/n={n}/{size}"), taken[0], taken[1]);
+                }
+            }
+        }
+    }
+
     /// Ever larger windows over one tree, and ever larger trees.
     fn growth(&mut self) {
         let kinds = [Kind::Int32, Kind::Float64];
@@ -393,6 +449,7 @@ fn main() {
         }
     }
     bench.list_cases();
+    bench.batch_cases();
     bench.growth();
     let most = arguments.get(2).map_or(usize::MAX, |tiles| tiles.parse().expect("a number of tiles"));
     for tiles in GROWING_TILES.into_iter().filter(|tiles| *tiles <= most) {

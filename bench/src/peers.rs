@@ -14,6 +14,11 @@ unsafe extern "C" {
         window_kinds: *const u8, window_kinds_length: usize, window_ends: *const u8, window_ends_length: usize, out: *mut u32,
         out_length: usize, answer: *mut u64,
     );
+    fn tussockbell_query_batch(
+        kinds: *const u8, kinds_length: usize, fields: u64, capacity: u64, tiles: u64, tree: *const u8, tree_length: usize,
+        window_kinds: *const u8, window_kinds_length: usize, windows: *const u8, windows_length: usize, records: *mut u64,
+        records_length: usize, out: *mut u32, out_length: usize, answer: *mut u64,
+    );
     fn tussockbell_offsets(tiles: u64, size: u64, list: *const u8, list_length: usize, answer: *mut u64);
     fn tussockbell_var_offsets(tiles: u64, size: u64, list: *const u8, list_length: usize, answer: *mut u64);
     fn tussockbell_sizes(tiles: u64, list: *const u8, list_length: usize, answer: *mut u64);
@@ -45,6 +50,20 @@ pub fn open(kinds: &[u8], fields: u64, capacity: u64, file_size: u64, footer: &[
         tussockbell_open(
             kinds.as_ptr(), kinds.len(), fields, capacity, file_size, footer.as_ptr(), footer.len(), tree.as_ptr(), tree.len(),
             answer.as_mut_ptr(),
+        )
+    }
+    answer
+}
+
+/// Number, place, windows. A record is number, place, found, looked, used.
+pub fn query_batch(
+    kinds: &[u8], fields: u64, capacity: u64, tiles: u64, tree: &[u8], windows: &[u8], records: &mut [[u64; 5]], out: &mut [u32],
+) -> [u64; 3] {
+    let mut answer = [0; 3];
+    unsafe {
+        tussockbell_query_batch(
+            kinds.as_ptr(), kinds.len(), fields, capacity, tiles, tree.as_ptr(), tree.len(), kinds.as_ptr(), kinds.len(), windows.as_ptr(),
+            windows.len(), records.as_mut_ptr().cast(), 5 * records.len(), out.as_mut_ptr(), out.len(), answer.as_mut_ptr(),
         )
     }
     answer

@@ -45,6 +45,9 @@ mod refusal {
     pub const TILE_OFFSETS: u64 = 18;
     pub const WINDOW: u64 = 19;
     pub const SUM: u64 = 20;
+    /// A batch's, of which nothing stands here.
+    #[allow(dead_code)]
+    pub const RUNS: u64 = 22;
 }
 
 #[derive(Debug, PartialEq)]

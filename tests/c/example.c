@@ -62,6 +62,25 @@ static void query(const uint8_t *tree, size_t length, const uint8_t *window_kind
            out[1], out[2]);
 }
 
+/* Three windows in one call, the second of them reversed, with room for `room` tiles and numbers for `places / 5` answers. */
+static void batch(const uint8_t *tree, size_t length, size_t room, size_t places)
+{
+    uint8_t windows[24];
+    uint32_t out[5] = {9, 9, 9, 9, 9};
+    uint64_t records[3 * TUSSOCKBELL_RECORD_PLACES];
+    uint64_t answer[TUSSOCKBELL_BATCH_PLACES];
+    memset(records, 0, sizeof records);
+    range(windows, range(windows, range(windows, 0, 12, 21), 4, 3), 0, 24);
+    tussockbell_query_batch(kinds, 1, 1, 32, 3, tree, length, kinds, 1, windows, sizeof windows, records, places, out, room,
+                            answer);
+    show("batch", answer, TUSSOCKBELL_BATCH_PLACES);
+    for (size_t at = 0; at + TUSSOCKBELL_RECORD_PLACES <= places; at += TUSSOCKBELL_RECORD_PLACES) {
+        show("  record", records + at, TUSSOCKBELL_RECORD_PLACES);
+    }
+    printf("  %s; buffer %" PRIu32 " %" PRIu32 " %" PRIu32 " %" PRIu32 " %" PRIu32 "\n",
+           tussockbell_refusal_text(answer[TUSSOCKBELL_NUMBER]), out[0], out[1], out[2], out[3], out[4]);
+}
+
 int main(void)
 {
     uint8_t tree[80];
@@ -83,6 +102,10 @@ int main(void)
     query(tree, length, no_kind, 1, 4, 4);
     query(tree, length, other_kind, 1, 4, 4);
     query(tree, length, NULL, 0, 4, 4);
+    batch(tree, length, 5, 15);
+    batch(tree, length, 4, 15);
+    batch(tree, length, 5, 10);
+    batch(tree, length, 5, 14);
 
     uint8_t footer[256];
     size_t footer_length = footer_bytes(footer);

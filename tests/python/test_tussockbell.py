@@ -1,5 +1,6 @@
 """The Python binding against the reference and the header; its buffers, its window ends and numbers of any size."""
 
+import array
 import copy
 import ctypes
 import dataclasses
@@ -29,6 +30,7 @@ import rules
 import tussockbell as tb
 
 MOST = 2**64 - 1
+REFUSALS = sorted(number for name, number in vars(rules.Refusal).items() if name.isupper())
 SAMPLE = {name: (root / "tests/fixtures/sample" / name).read_bytes() for name in ("footer", "tree", "offsets")}
 SAMPLE_SIZE, SAMPLE_DATA_SIZE = 1166, 300
 ONE = tb.Description(["int32"], fields=1, capacity=32)
@@ -188,6 +190,20 @@ class Same(unittest.TestCase):
         self.same(outcome(tb.query, given, n, body, window, room=room), expected)
         return expected
 
+    def same_batch(self, ask, known, n, body, windows, room):
+        """A batch against the reference's, of windows as the binding takes them, and their kinds and numbers."""
+        given = [window for window, _, _ in windows]
+        places = 100_000 if room is None else min(max(room, 0), 100_000)
+        records, out = rules.batch(known, n, body, [(kinds, numbers) for _, kinds, numbers in windows], len(windows), [None] * places)
+        expected, free = [], 0
+        for number, place, found, looked, used in records:
+            expected.append(("refused", number, place, 0) if number else tb.Hit(out[free : free + used], found, looked))
+            free += used
+        got = [("refused", *one.args) if isinstance(one, tb.Refused) else one for one in ask(given, room=room)]
+        self.same(got, expected)
+        self.refusals |= {one[1] for one in got if one[0] == "refused"}
+        return expected
+
     def same_lists(self, n, size, offsets, sizes):
         self.same(outcome(lambda: list(tb.tile_offsets(n, size, offsets))), outcome(rules.extents, n, size, offsets))
         nearest = min(max(size, 0), MOST)
@@ -305,6 +321,114 @@ def changed(data, at, new):
     return data[:at] + new + data[at + len(new) :]
 
 
+class Batches(Same):
+    """All windows of a batch in one call, against the reference and against the same windows asked one after the other."""
+
+    @staticmethod
+    def plain(windows):
+        """Windows of the description's kinds as the bytes of a run."""
+        return b"".join(Fragment.pattern(kind, x) for _, kinds, numbers in windows for kind, pair in zip(kinds, numbers) for x in pair)
+
+    def test_generated(self):
+        chance, hits = random.Random(5), 0
+        for _ in range(120):
+            f = random_fragment(chance)
+            tree = tb.open_tree(f.given, f.file_size, f.footer, f.tree)
+            windows = [f.window() for _ in range(chance.choice((0, 1, 2, 5, 9, 32, 33)))]
+            for room in (None, 0, 1, chance.randrange(1, 90), -1, 10**30):
+                expected = self.same_batch(tree.query_batch, f.known, f.n, f.tree, windows, room)
+                hits += sum(bool(one[0]) for one in expected if isinstance(one, tb.Hit))
+            body, n = f.damaged(f.tree), f.n + chance.choice((0, 0, 0, 1))
+            self.same_batch(lambda given, room: tb.query_batch(f.given, n, body, given, room), f.known, n, body, windows, None)
+        self.assertGreater(hits, 1500)
+        self.assertLessEqual({2, 8, 9, 14, 19}, self.refusals)
+
+    def sound(self, chance, f, count):
+        """Windows of the description's kinds, some of them reversed."""
+        windows = []
+        for _ in range(count):
+            middle = chance.randrange(10 * f.n)
+            sides = [f.near(kind, middle, 200) for kind in f.kinds]
+            windows.append((sides, f.kinds, sides))
+            if chance.randrange(6) == 0:
+                low, high = sides[0]
+                windows[-1] = ([(high + 1, low), *sides[1:]], f.kinds, [(high + 1, low), *sides[1:]])
+        return windows
+
+    def test_numbers_of_windows_and_room(self):
+        chance = random.Random(6)
+        for count in (0, 1, 32, 33, 1000):
+            f = Fragment(["int32", "float64"], 60, 4, 1, chance)
+            windows, data = self.sound(chance, f, count), None
+            ask = tb.open_tree(f.given, f.file_size, f.footer, f.tree).query_batch
+            found = [one.found for one in ask([w for w, _, _ in windows]) if isinstance(one, tb.Hit)]
+            middle = sum(found[: len(found) // 2]) + 1
+            for room in (None, 0, sum(found), sum(found) - 1, sum(found) + 1, min(middle, sum(found))):
+                expected = self.same_batch(ask, f.known, f.n, f.tree, windows, room)
+                data = self.plain(windows)
+                got = [("refused", *one.args) if isinstance(one, tb.Refused) else one for one in ask(data, room=room)]
+                self.assertEqual(got, expected)
+
+    def test_refused_first_in_between_and_last(self):
+        tree = tb.open_tree(ONE, SAMPLE_SIZE, SAMPLE["footer"], SAMPLE["tree"])
+        bad, more, hit = [(1, 0)], [(0, 1), (0, 1)], tb.Hit([1, 2], 2, 6)
+        reversed_, differs = tb.Refused(9, 0), tb.Refused(19, 0)
+        asked = [bad, [(12, 21)], more, [(12, 21)], ["x"], tb.Window(["int64"], [(0, 1)]), bad]
+        answers = [reversed_, hit, differs, hit, differs, differs, reversed_]
+        self.assertEqual(tree.query_batch(asked), answers)
+        self.assertEqual(tree.query_batch(asked, room=3), [*answers[:3], tb.Hit([1], 2, 6), *answers[4:]])
+        self.assertEqual(tree.query_batch([bad, [(12, 21)], bad]), [reversed_, hit, reversed_])
+        self.assertEqual(tree.query_batch(iter(asked)), answers)
+
+    def test_bad_descriptions(self):
+        for description in BAD_DESCRIPTIONS:
+            for windows in ([[(0, 1)]] * 3, [], [tb.Window(["int32"], [(0, 1)]), []]):
+                expected = [tb.Refused(1, 0)] * len(windows)
+                self.assertEqual(tb.query_batch(description, 3, SAMPLE["tree"], windows), expected, msg=description)
+
+    def test_calls(self):
+        """One call, and a second one only where the room was not known and too short."""
+        chance, calls, real = random.Random(7), [], tb._c_query_batch
+        f = Fragment(["float64"], 200, 10, 1, chance)
+        self.assertLess(400, tb._FIRST_ROOM)
+        everything = [[(-math.inf, math.inf)]]
+
+        def counted(*arguments):
+            calls.append(arguments)
+            real(*arguments)
+
+        tb._c_query_batch = counted
+        try:
+            for windows, room, number in ((everything * 32, None, 2), (everything * 32, 50, 1), (everything * 2, None, 1), ([], None, 1)):
+                calls.clear()
+                self.assertEqual(len(tb.query_batch(f.given, f.n, f.tree, windows, room)), len(windows))
+                self.assertEqual(len(calls), number)
+        finally:
+            tb._c_query_batch = real
+
+    def test_buffers(self):
+        """Everything that lends the bytes of windows, and what does not fit."""
+        f = Fragment(["float64", "float64"], 40, 4, 1, random.Random(8))
+        windows = self.sound(random.Random(9), f, 32)
+        expected, data = tb.query_batch(f.given, f.n, f.tree, [w for w, _, _ in windows]), self.plain(windows)
+        doubles = memoryview(data).cast("d")
+        shaped = memoryview(data).cast("d", shape=[32, 2, 2])
+        own = ((ctypes.c_double * 4) * 32).from_buffer_copy(data)
+        forms = [bytearray(data), memoryview(data), array.array("d", data), doubles, shaped, own, (ctypes.c_ubyte * len(data)).from_buffer_copy(data)]
+        apart = memoryview(bytes(x for byte in data for x in (byte, 0)))[::2]
+        for form in [data, *forms, apart]:
+            self.assertEqual(tb.query_batch(f.given, f.n, f.tree, form), expected)
+        for form in (array.array("f", [0.0] * 8), array.array("q", [0] * 4), array.array("i", [0] * 8), memoryview(data).cast("Q")):
+            self.assertRaises(TypeError, tb.query_batch, f.given, f.n, f.tree, form)
+        for cut in (1, 31, 33, 1023):
+            self.assertEqual(outcome(tb.query_batch, f.given, f.n, f.tree, data[:cut]), ("refused", 22, 0, 0))
+        ints = tb.Description(["int64"], 1, 32)
+        self.assertEqual(tb.query_batch(ints, 1, b"", array.array("l" if array.array("l").itemsize == 8 else "q", [0, 1])), [tb.Refused(2, 0)])
+        self.assertRaises(TypeError, tb.query_batch, f.given, f.n, f.tree, 5)
+        mixed = tb.Description(["int32", "float64"], 1, 32)
+        self.assertRaises(TypeError, tb.query_batch, mixed, 1, b"", doubles)
+
+
 class Refusals(unittest.TestCase):
     def test_each_number(self):
         """Each refusal by one field of the sample, with the number, the place and which bytes it counts in."""
@@ -339,8 +463,9 @@ class Refusals(unittest.TestCase):
             18: (lambda: tb.tile_offsets(3, 250, offsets), 24, 0),
             19: (lambda: tb.query(ONE, 3, body, [(0, 1), (0, 1)]), 0, 0),
             20: (lambda: tb.tile_sizes(2, pieces.entries([MOST, 1])), 16, 0),
+            22: (lambda: tb.query_batch(ONE, 3, body, bytes(9)), 0, 0),
         }
-        self.assertEqual(list(cases), list(range(1, 21)))
+        self.assertEqual(list(cases), REFUSALS)
         for number, (ask, place, which) in cases.items():
             self.assertEqual(outcome(ask), ("refused", number, place, which))
 
@@ -709,7 +834,7 @@ class Header(unittest.TestCase):
         cases = re.findall(r'case TUSSOCKBELL_(\w+):\s+return "(.*)";', self.header)
         self.assertEqual({self.defined[name]: text for name, text in cases}, tb._TEXTS)
         self.assertEqual(re.findall(r'default:\s+return "(.*)";', self.header), [tb.Refused(max(tb._TEXTS) + 1, 0).text])
-        self.assertEqual(sorted(tb._TEXTS), list(range(len(tb._TEXTS))))
+        self.assertEqual(sorted(tb._TEXTS), [0, *REFUSALS])
 
     def test_places(self):
         constants = {name[1:]: value for name, value in vars(tb).items() if re.fullmatch("_[A-Z0-9_]+", name)}
@@ -727,7 +852,7 @@ class Header(unittest.TestCase):
         """Parameters and results as the header declares them."""
         types = {"uint64_t": ctypes.c_uint64, "size_t": ctypes.c_size_t, "void": None}
         declared = re.findall(r"^(\w+) tussockbell_(\w+)\(([^;{]*)\);", self.header, re.M)
-        self.assertEqual(len(declared), 13)
+        self.assertEqual(len(declared), 14)
         asked = {name for name in vars(tb) if name.startswith("_c_")}
         self.assertEqual({"_c_" + name for _, name, _ in declared} - asked, {"_c_extent", "_c_var_extent", "_c_report"})
         for result, name, parameters in declared:

@@ -279,6 +279,15 @@ def tree_cases(cases):
         second = window_bytes(kinds, window) + body
         cases.add(7, d, [foot.file_size, room], foot.data(), second, text(answer + buffer))
 
+    def ask_batch(d, n, body, windows, room):
+        """Thirty-two windows at once: their answers, and a buffer of 64 places of which `room` are lent."""
+        windows = [windows[i % len(windows)] for i in range(32)]
+        given = [(kinds, numbers_of(kinds, window)) for kinds, window in windows]
+        records, buffer = rules.batch(d, n, body, given, 32, [7] * room)
+        answers = [x for record in records for x in record[:4]]
+        second = b"".join(window_bytes(kinds, window) for kinds, window in windows)
+        cases.add(9, d, [n, room], body, second, text(answers + buffer + [7] * (64 - room)))
+
     def ask_open(d, foot, body):
         try:
             r = rules.open_tree(d, foot.file_size, foot.data(), body)
@@ -291,6 +300,16 @@ def tree_cases(cases):
     for window in ((12, 21), (5, 9), (30, 40), (4, 4), (0, 24), (-(2**31), 2**31 - 1), (24, 24), (-9, 0)):
         for room in (0, 1, 2, 8):
             ask(one, 3, tree_a, ["int32"], [window], room)
+    # batches: room for none, for all that is found, one place less, and in the middle of a window; refused windows first, in between and last
+    whole, two, none, back = (["int32"], [(0, 24)]), (["int32"], [(12, 21)]), (["int32"], [(5, 9)]), (["int32"], [(1, 0)])
+    other, more = (["int64"], [(0, 24)]), (["int32", "int32"], [(0, 24), (0, 24)])
+    for windows, rooms in (([two], (64, 63, 40)), ([whole, none], (0, 48, 47, 1, 2)), ([back, two, other, none, more], (64, 12, 13, 5)),
+                           ([two] * 31 + [back], (62, 61)), ([back] * 31 + [whole], (3, 2)), ([back], (8,))):
+        for room in rooms:
+            ask_batch(one, 3, tree_a, windows, room)
+    ask_batch(Description(["int32"], 0, 32), 3, tree_a, [two, back], 8)
+    ask_batch(one, 0, tree_a, [two, back], 8)
+    ask_batch(one, 3, tree_a[:-1], [two, back], 8)
     foot = pieces.Footer(one, [(0, 24)])
     ask_open(one, foot, tree_a)
     ask_open(one, foot, tree_a[:72] + pieces.box(["int32"], [(20, 25)]))

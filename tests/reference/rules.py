@@ -59,6 +59,7 @@ class Refusal:
     TILE_OFFSETS = 18
     WINDOW = 19
     SUM = 20
+    RUNS = 22
 
 
 def allowed(what, x):
@@ -290,6 +291,25 @@ def query(d, n, body, kinds, window):
 
     look(0, 0)
     return found, looked
+
+
+def batch(d, n, body, windows, answers, out):
+    """Each window, of kinds and ranges, asked with what the earlier ones left of the result buffer: for each its answer, number, place, found
+    and looked, and the places that it used; and the buffer. `answers` is how many answers there is a place for."""
+    if answers != len(windows):
+        raise Refused(Refusal.RUNS, 0)
+    records, out, free = [], list(out), 0
+    for kinds, window in windows:
+        try:
+            found, looked = query(d, n, body, kinds, window)
+        except Refused as r:
+            records.append((r.number, r.place, 0, 0, 0))
+            continue
+        used = min(len(found), len(out) - free)
+        out[free : free + used] = found[:used]
+        free += used
+        records.append((0, 0, len(found), looked, used))
+    return records, out
 
 
 def open_and_ask(d, file_size, footer_data, body, kinds, window):

@@ -6,6 +6,7 @@
     footer = tb.read_footer(d, file_size, footer_bytes)
     tree = tb.open_tree(d, file_size, footer_bytes, tree_bytes)
     hit = tree.query([(0, 10), (-1.5, 2.5)])
+    hits = tree.query_batch([[(0, 10), (-1.5, 2.5)], [(20, 30), (0.0, 1.0)]])
     offsets = tb.tile_offsets(footer.tiles, data_file_size, list_bytes)
     for tile in hit.tiles:
         offset, extent = offsets[tile]
@@ -26,6 +27,7 @@ package, else build/libtussockbell.so of the checkout that it is in. All functio
 from __future__ import annotations
 
 import ctypes
+import functools
 import math
 import mmap
 import operator
@@ -40,7 +42,7 @@ from typing import Any, NamedTuple, Optional, SupportsFloat, SupportsIndex, Tupl
 
 __all__ = [
     "Description", "Footer", "Hit", "Offsets", "Refused", "Tree", "Window",
-    "open_tree", "query", "read_footer", "tile_offsets", "tile_sizes", "var_tile_offsets",
+    "open_tree", "query", "query_batch", "read_footer", "tile_offsets", "tile_sizes", "var_tile_offsets",
 ]
 
 __version__ = "0.2.0"
@@ -49,6 +51,7 @@ Bytes = Union[bytes, bytearray, memoryview, mmap.mmap]
 Kind = Union[str, SupportsIndex, None]
 End = Union[SupportsIndex, SupportsFloat, bytes, bytearray]
 Range = Tuple[End, End]
+Windows = Union[Bytes, Iterable[Union["Window", Iterable[Range]]]]
 
 # ---- the names of include/tussockbell.h, without their TUSSOCKBELL
 
@@ -82,6 +85,7 @@ _TEXTS = {
     18: "tile offsets break their rule",
     19: "the window's dimension number or a kind differs",
     20: "tile sizes add up past 2^64 - 1",
+    22: "the answer run is not as long as the query run",
 }
 
 _NUMBER, _PLACE = 0, 1
@@ -90,6 +94,7 @@ _FOOTER_LIST_PLACES, _FOOTER_PLACES = 64, 730
 _NAME_START, _NAME_LENGTH, _NAME_PLACES = 0, 1, 2
 _OPEN_WHICH, _OPEN_TILES, _OPEN_FANOUT, _OPEN_LEVELS, _OPEN_PLACES = 2, 3, 4, 5, 6
 _QUERY_FOUND, _QUERY_LOOKED, _QUERY_PLACES = 2, 3, 4
+_BATCH_WINDOWS, _BATCH_PLACES, _RECORD_USED, _RECORD_PLACES = 2, 3, 4, 5
 _OFFSETS_TILES, _OFFSETS_PLACES = 2, 3
 _EXTENT_OFFSET, _EXTENT_LENGTH, _EXTENT_PLACES = 0, 1, 2
 _SIZES_SUM, _SIZES_PLACES = 2, 3
@@ -138,6 +143,7 @@ _c_cells = _function("cells", [*_footer, _u64], _u64)
 _c_total_cells = _function("total_cells", _footer, _u64)
 _c_open = _function("open", [*_footer, *_bytes, _pointer])
 _c_query = _function("query", [*_description, _u64, *_bytes, *_bytes, *_bytes, *_bytes, _pointer])
+_c_query_batch = _function("query_batch", [*_description, _u64, *_bytes, *_bytes, *_bytes, *_bytes, *_bytes, _pointer])
 _c_offsets = _function("offsets", [*_list, _pointer])
 _c_var_offsets = _function("var_offsets", [*_list, _pointer])
 _c_extent_at = _function("extent_at", [*_list, _u64, _pointer])
@@ -147,6 +153,7 @@ _FooterAnswer = _u64 * _FOOTER_PLACES
 _NameAnswer = _u64 * _NAME_PLACES
 _OpenAnswer = _u64 * _OPEN_PLACES
 _QueryAnswer = _u64 * _QUERY_PLACES
+_BatchAnswer = _u64 * _BATCH_PLACES
 _OffsetsAnswer = _u64 * _OFFSETS_PLACES
 _ExtentAnswer = _u64 * _EXTENT_PLACES
 _SizesAnswer = _u64 * _SIZES_PLACES
@@ -233,6 +240,7 @@ def _kept(data: Bytes) -> Iterator[memoryview]:
 # ---- numbers
 
 _LARGEST = 2**64 - 1
+_MOST_DIMENSIONS = 4
 _NO_KIND = 255
 _NAMES = {name: number for name, (number, _) in _KINDS.items()}
 _FORMATS = dict(_KINDS.values())
@@ -243,11 +251,13 @@ _WIDTHS = {kind: struct.calcsize(one) for kind, one in _FORMATS.items()}
 _PAIRS = {kind: struct.Struct(one + one[1]).pack for kind, one in _FORMATS.items() if kind != _FLOAT32}
 # A result buffer is as many of these as it has places; a place is a uint32_t.
 _ONE_TILE = array("I", [0])
-# The room that a query is first asked with. One that finds more tiles is asked once more, with room for all of them, so that a
-# query costs what it finds, however many tiles there are.
+# The room that a query or a batch is first asked with. One that finds more tiles is asked once more, with room for all of them, so
+# that it costs what it finds, however many tiles there are.
 _FIRST_ROOM = 4096
 # Enough for the zero ends of a range of any kind.
 _NO_ENDS = bytes(16)
+# The items of a buffer of plain bytes, as `struct` names them.
+_PLAIN = ("B", "b", "c")
 
 
 def _limited(number: SupportsIndex) -> int:
@@ -335,6 +345,50 @@ def _window_bytes(kinds: bytes, sides: Sequence[Any]) -> tuple[bytes, bytes]:
             given[i], pair = _NO_KIND, _NO_ENDS
         ends.append(pair)
     return bytes(given), b"".join(ends)
+
+
+def _window_width(kinds: bytes) -> int:
+    """The bytes of a window in a run of them: a number that is no kind counts as int32, and the first four count."""
+    return sum(2 * _WIDTHS.get(kind, _WIDTHS[_NAMES["int32"]]) for kind in kinds[:_MOST_DIMENSIONS])
+
+
+@functools.lru_cache(maxsize=64)
+def _packer(kinds: bytes, count: int) -> Callable[..., bytes]:
+    """What packs the ends of so many windows, one after the other."""
+    return struct.Struct("<" + "".join(2 * _FORMATS[kind][1] for kind in kinds) * count).pack
+
+
+def _packed(kinds: bytes, windows: list[Any]) -> Optional[bytes]:
+    """All windows packed at once, or None where one has to be looked at first."""
+    try:
+        if {len(window) for window in windows} != {len(kinds)} or len(kinds) > _MOST_DIMENSIONS:
+            return None
+        ends = [end for window in windows for low, high in window for end in (low, high)]
+        # A float32 end that is no float yet may have to be rounded with care.
+        if _FLOAT32 in kinds and {type(end) for end in ends} != {float}:
+            return None
+        return _packer(kinds, len(windows))(*ends)
+    except (KeyError, TypeError, ValueError, struct.error, OverflowError):
+        return None
+
+
+def _given_window(kinds: bytes, window: Any) -> tuple[bytes, bytes]:
+    """Kinds and ends of a window as the library takes them, of these kinds where it has none of its own."""
+    if isinstance(window, Window):
+        return window._kinds, window._ends
+    sides = window if isinstance(window, (list, tuple)) else list(window)
+    if len(kinds) != len(sides):
+        kinds = kinds[: len(sides)].ljust(len(sides), bytes([_NO_KIND]))
+    return _window_bytes(kinds, sides)
+
+
+def _items_fit(kinds: bytes, view: memoryview) -> bool:
+    """Whether the items of a buffer are plain bytes, records, or ends of the one kind that all dimensions have."""
+    item = view.format.lstrip("@=<")
+    if item in _PLAIN or item.startswith("T{"):
+        return True
+    own = {"l": "iq", "L": "IQ"}.get(item, item + item)[view.itemsize > 4]
+    return all(_FORMATS.get(kind) == "<" + own for kind in kinds)
 
 
 # ---- what users see
@@ -475,14 +529,7 @@ def _ask(
     description: Description, tiles: int, tree: tuple[Optional[int], int], window: Union[Window, Iterable[Range]],
     room: Optional[SupportsIndex],
 ) -> Hit:
-    if isinstance(window, Window):
-        kinds, ends = window._kinds, window._ends
-    else:
-        sides = window if isinstance(window, (list, tuple)) else list(window)
-        kinds = description._given[0]
-        if len(kinds) != len(sides):
-            kinds = kinds[: len(sides)].ljust(len(sides), bytes([_NO_KIND]))
-        kinds, ends = _window_bytes(kinds, sides)
+    kinds, ends = _given_window(description._given[0], window)
     # Each box has 8 bytes at least, so there are never more tiles to find.
     most = min(tiles, tree[1] // 8)
     wanted = most if room is None else min(max(operator.index(room), 0), most)
@@ -514,8 +561,96 @@ def query(
         return _ask(description, _limited(tiles), _lent(view), window, room)
 
 
+def _ask_run(
+    description: Description, tiles: int, tree: tuple[Optional[int], int], windows: tuple[Any, int], places: int,
+) -> tuple[list[int], array[int]]:
+    """The records of a run of windows that have the description's kinds, and the result buffer."""
+    kinds = description._given[0]
+    width = _window_width(kinds)
+    records, out, answer = (_u64 * (windows[1] // width * _RECORD_PLACES if width else 0))(), _ONE_TILE * places, _BatchAnswer()
+    _c_query_batch(
+        *description._given, tiles, *tree, kinds, len(kinds), *windows, records, len(records), out.buffer_info()[0], places, answer
+    )
+    _check(answer)
+    return records[:], out
+
+
+def _ask_all(
+    description: Description, tiles: int, tree: tuple[Optional[int], int], windows: tuple[Any, int], room: Optional[SupportsIndex],
+) -> list[Union[Hit, Refused]]:
+    most = min(tiles, tree[1] // 8) * windows[1]
+    wanted = most if room is None else min(max(operator.index(room), 0), most)
+    places = min(wanted, _FIRST_ROOM)
+    records, out = _ask_run(description, tiles, tree, windows, places)
+    needed = min(sum(records[_QUERY_FOUND::_RECORD_PLACES]), wanted)
+    if places < needed:
+        records, out = _ask_run(description, tiles, tree, windows, needed)
+    listed, at = out[: sum(records[_RECORD_USED::_RECORD_PLACES])].tolist(), 0
+    answers: list[Union[Hit, Refused]] = []
+    for number, place, found, looked, used in zip(*[iter(records)] * _RECORD_PLACES):
+        answers.append(Refused(number, place) if number else Hit(listed[at : at + used], found, looked))
+        at += used
+    return answers
+
+
+def _ask_batch(
+    description: Description, tiles: int, tree: tuple[Optional[int], int], windows: Windows, room: Optional[SupportsIndex],
+) -> list[Union[Hit, Refused]]:
+    try:
+        view = _lend(windows)  # type: ignore[arg-type]
+    except TypeError:
+        view = None
+    if view is None:
+        return _ask_listed(description, tiles, tree, list(windows), room)
+    with view:
+        if not _items_fit(description._given[0], view):
+            raise TypeError(f"a buffer of windows has bytes, or ends of the description's kinds, not items of format {view.format!r}")
+        return _ask_all(description, tiles, tree, _lent(view), room)
+
+
+def _ask_listed(
+    description: Description, tiles: int, tree: tuple[Optional[int], int], windows: list[Any], room: Optional[SupportsIndex],
+) -> list[Union[Hit, Refused]]:
+    kinds = description._given[0]
+    packed = _packed(kinds, windows)
+    if packed is not None:
+        return _ask_all(description, tiles, tree, (packed, len(packed)), room)
+    # A window that is not of the description's kinds, or has no kind in some dimension, is no part of the run.
+    given, width = [_given_window(kinds, window) for window in windows], _window_width(kinds)
+    in_run = [own == kinds and 0 < len(ends) == width for own, ends in given]
+    packed = b"".join(ends for (_, ends), fits in zip(given, in_run) if fits)
+    answers = iter(_ask_all(description, tiles, tree, (packed, len(packed)), room))
+    return [next(answers) if fits else _refusal(description, tiles, tree, own, ends) for (own, ends), fits in zip(given, in_run)]
+
+
+def _refusal(description: Description, tiles: int, tree: tuple[Optional[int], int], kinds: bytes, ends: bytes) -> Refused:
+    """What a window of other kinds than the description's is refused with: it uses no place, and is asked alone."""
+    answer = _QueryAnswer()
+    _c_query(*description._given, tiles, *tree, kinds, len(kinds), ends, len(ends), None, 0, answer)
+    return Refused(answer[_NUMBER], answer[_PLACE])
+
+
+def query_batch(
+    description: Description, tiles: SupportsIndex, tree: Bytes, windows: Windows, room: Optional[SupportsIndex] = None,
+) -> list[Union[Hit, Refused]]:
+    """Which tiles does each window touch, in a tree of that many tiles? All windows in one call of the library.
+
+    The windows are those of `query`, or one buffer of them: bytes, a memoryview, an array or whatever else lends its bytes, a
+    numpy array too, with the ends of the description's kinds, minimum and maximum of each dimension in turn, window after
+    window. A buffer is lent as it is, and no window of it is looked at here; one that has no whole number of windows is refused
+    (22).
+
+    For each window the list has a `Hit`, or the `Refused` that `query` would raise. With `room` no more than that many tiles are
+    listed in all, those of the first windows; a refused window takes none. The library is asked a second time where more tiles
+    are to be listed than there was room for at first. A window of other kinds than the description's is refused in a call of its
+    own.
+    """
+    with _lend(tree) as view:
+        return _ask_batch(description, _limited(tiles), _lent(view), windows, room)
+
+
 class Tree:
-    """An opened tree: `tiles`, `fanout`, `levels`, and `query`. `open_tree` makes it.
+    """An opened tree: `tiles`, `fanout`, `levels`, `query` and `query_batch`. `open_tree` makes it.
 
     It keeps hold of the tree's bytes for as long as it lives, with no copy. They must stay as they are: a query does not check
     them again.
@@ -536,6 +671,10 @@ class Tree:
         that many tiles are listed, the first ones.
         """
         return _ask(self.description, self.tiles, self._lent, window, room)
+
+    def query_batch(self, windows: Windows, room: Optional[SupportsIndex] = None) -> list[Union[Hit, Refused]]:
+        """Which tiles does each window touch? As the function `query_batch`, on this tree."""
+        return _ask_batch(self.description, self.tiles, self._lent, windows, room)
 
 
 def open_tree(description: Description, file_size: SupportsIndex, footer: Bytes, tree: Bytes) -> Tree:

@@ -6,8 +6,10 @@
 //! nothing is read or written through it. An answer array has the places that the header asks for, and a `&mut`
 //! overlaps nothing else that is lent.
 
+use crate::batch::Record;
 use crate::places::{
-    EXTENT_PLACES, FOOTER_PLACES, NAME_PLACES, OFFSETS_PLACES, OPEN_PLACES, QUERY_PLACES, SIZES_PLACES,
+    BATCH_PLACES, EXTENT_PLACES, FOOTER_PLACES, NAME_PLACES, OFFSETS_PLACES, OPEN_PLACES, QUERY_PLACES, RECORD_PLACES,
+    SIZES_PLACES,
 };
 use crate::{Description, Kind};
 
@@ -28,6 +30,10 @@ extern "C" {
                          tree: *const u8, tree_length: usize, window_kinds: *const u8, window_kinds_length: usize,
                          window_ends: *const u8, window_ends_length: usize, out: *mut u32, out_length: usize,
                          answer: *mut u64);
+    fn tussockbell_query_batch(kinds: *const u8, kinds_length: usize, fields: u64, capacity: u64, tiles: u64,
+                               tree: *const u8, tree_length: usize, window_kinds: *const u8, window_kinds_length: usize,
+                               windows: *const u8, windows_length: usize, records: *mut u64, records_length: usize,
+                               out: *mut u32, out_length: usize, answer: *mut u64);
     fn tussockbell_offsets(tiles: u64, size: u64, list: *const u8, list_length: usize, answer: *mut u64);
     fn tussockbell_var_offsets(tiles: u64, size: u64, list: *const u8, list_length: usize, answer: *mut u64);
     fn tussockbell_extent_at(tiles: u64, size: u64, list: *const u8, list_length: usize, tile: u64, answer: *mut u64);
@@ -113,6 +119,41 @@ pub(crate) fn query(
             window_kinds.len(),
             window_ends.as_ptr(),
             window_ends.len(),
+            out.as_mut_ptr(),
+            out.len(),
+            answer.as_mut_ptr(),
+        )
+    };
+    answer
+}
+
+pub(crate) fn query_batch(
+    d: &Description,
+    tiles: u64,
+    tree: &[u8],
+    window_kinds: &[Kind],
+    windows: &[u8],
+    records: &mut [Record],
+    out: &mut [u32],
+) -> [u64; BATCH_PLACES] {
+    let mut answer = [0; BATCH_PLACES];
+    // SAFETY: pointers and lengths of slices, of which a record is its numbers in the header's places and nothing else;
+    // an answer array of the header's places, and buffers lent to nobody else.
+    unsafe {
+        tussockbell_query_batch(
+            bytes(d.kinds),
+            d.kinds.len(),
+            d.fields,
+            d.capacity,
+            tiles,
+            tree.as_ptr(),
+            tree.len(),
+            bytes(window_kinds),
+            window_kinds.len(),
+            windows.as_ptr(),
+            windows.len(),
+            records.as_mut_ptr().cast(),
+            records.len() * RECORD_PLACES,
             out.as_mut_ptr(),
             out.len(),
             answer.as_mut_ptr(),

@@ -2,11 +2,11 @@
 //!
 //! Tussockbell reads the fragment's metadata and answers. The library under this crate is proved to do what its
 //! contracts say, for every input; this crate lends it slices and gives its answers names and types. It copies none of
-//! the bytes, and only [`Tree::tiles_in`] allocates.
+//! the bytes, and only [`Tree::tiles_in`] and [`query_batch`], over ranges, allocate.
 //!
 //! - [`read_footer`] reads the footer of `__fragment_metadata.tdb`: every number of it.
 //! - [`open_tree`] opens a footer and an R-tree together and checks every box; the [`Tree`] answers windows.
-//! - [`query`] answers a window over a tree's plain bytes.
+//! - [`query`] answers a window over a tree's plain bytes, [`query_batch`] all windows of a batch in one call.
 //! - [`tile_offsets`], [`var_tile_offsets`] and [`tile_sizes`] read a field's lists.
 //! - [`report`] writes the report of four files as text.
 //!
@@ -38,6 +38,7 @@
 #![deny(unsafe_code)]
 #![deny(unsafe_op_in_unsafe_fn)]
 
+mod batch;
 #[allow(unsafe_code)]
 mod ffi;
 mod footer;
@@ -47,6 +48,7 @@ mod ranges;
 mod refused;
 mod tree;
 
+pub use batch::{query_batch, query_batch_bytes, Record};
 pub use footer::{read_footer, Footer};
 pub use lists::{tile_offsets, tile_sizes, var_tile_offsets, Extent, TileOffsets};
 pub use ranges::{Description, Kind, Range};

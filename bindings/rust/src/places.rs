@@ -53,6 +53,9 @@ places! {
     QUERY_FOUND = 2;
     QUERY_LOOKED = 3;
     QUERY_PLACES = 4;
+    BATCH_PLACES = 3;
+    RECORD_USED = 4;
+    RECORD_PLACES = 5;
     OFFSETS_TILES = 2;
     OFFSETS_PLACES = 3;
     EXTENT_OFFSET = 0;

@@ -73,6 +73,7 @@ refusals! {
     18 TILE_OFFSETS "tile offsets break their rule";
     19 WINDOW "the window's dimension number or a kind differs";
     20 SUM "tile sizes add up past 2^64 - 1";
+    22 RUNS "the answer run is not as long as the query run";
 }
 
 impl Refused {

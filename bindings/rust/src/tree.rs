@@ -110,6 +110,14 @@ pub fn open_tree<'a>(
 }
 
 impl Tree<'_> {
+    pub(crate) fn description(&self) -> &Description<'_> {
+        &self.description
+    }
+
+    pub(crate) fn bytes(&self) -> &[u8] {
+        self.bytes
+    }
+
     /// The number of tiles.
     pub fn tiles(&self) -> u64 {
         self.tiles

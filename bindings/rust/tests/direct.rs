@@ -3,8 +3,8 @@
 mod fixture;
 
 use fixture::Fixture;
-use tussockbell::{open_tree, query, read_footer, report, tile_offsets, tile_sizes};
-use tussockbell::{Description, Extent, Kind, Range, Refused, Which};
+use tussockbell::{open_tree, query, query_batch, query_batch_bytes, read_footer, report, tile_offsets, tile_sizes};
+use tussockbell::{Description, Extent, Kind, Range, Record, Refused, Which};
 
 const WINDOW: [Range; 1] = [Range::Int32(12, 21)];
 
@@ -38,6 +38,64 @@ fn a_refused_query_leaves_the_buffer_alone() {
     assert_eq!(query(&sample.description(), 4, &sample.tree, &WINDOW, &mut out), Err(refusal(Refused::BYTES, 80)));
     assert_eq!(out, [77; 4]);
     assert_eq!(tree.tiles_in(&[]), Err(refusal(Refused::WINDOW, 0)));
+}
+
+/// Each window of a batch, with what the earlier ones left of a buffer: 0, 1, 32, 33 and 1,000 windows, of which some are refused, first, in between and
+/// last; room for none, for all that is found, one place less, one more, and to the middle of a window.
+#[test]
+fn a_batch_answers_as_its_windows_alone() {
+    let sample = sample();
+    let d = sample.description();
+    for count in [0, 1, 32, 33, 1000] {
+        let ends = |i: i32| if i % 7 == 0 || i == count - 1 { [i, i - 1] } else { [i % 30 - 3, i % 30 + 9] };
+        let sides: Vec<[Range; 1]> = (0..count).map(|i| [Range::Int32(ends(i)[0], ends(i)[1])]).collect();
+        let windows: Vec<&[Range]> = sides.iter().map(|side| &side[..]).collect();
+        let bytes: Vec<u8> = (0..count).flat_map(ends).flat_map(i32::to_le_bytes).collect();
+        let mut alone = vec![77; 3 * windows.len()];
+        let found =
+            |window: &[Range]| query(&d, 3, &sample.tree, window, &mut []).map_or(0, |answer| answer.found as usize);
+        let all: usize = windows.iter().map(|window| found(window)).sum();
+        for room in [0, 1, all / 2, all.saturating_sub(1), all, all + 1] {
+            let (mut out, mut again) = (vec![77; room], vec![77; room]);
+            let mut records = vec![Record::default(); windows.len()];
+            query_batch_bytes(&d, 3, &sample.tree, d.kinds, &bytes, &mut records, &mut out).unwrap();
+            alone[..].fill(77);
+            let (mut free, mut rest) = (0, &mut alone[..room.min(3 * count as usize)]);
+            let answers = query_batch(&d, 3, &sample.tree, &windows, &mut again);
+            for ((window, record), answer) in windows.iter().zip(&records).zip(answers) {
+                let single = query(&d, 3, &sample.tree, window, rest);
+                assert_eq!(single, answer);
+                let (tiles, found, looked) = single.map_or((0, 0, 0), |a| (a.tiles.len(), a.found, a.looked));
+                assert_eq!((record.used(), record.found(), record.looked()), (tiles, found, looked));
+                assert_eq!(record.check().err(), single.err());
+                assert_eq!(out[free..free + tiles], rest[..tiles]);
+                free += tiles;
+                rest = &mut rest[tiles..];
+            }
+            assert!(out[free..].iter().all(|place| *place == 77) && free == room.min(all));
+            assert_eq!(out, again);
+        }
+    }
+}
+
+#[test]
+fn runs_of_unlike_length_write_nothing() {
+    let sample = sample();
+    let d = sample.description();
+    for (bytes, count) in [(0, 1), (8, 0), (8, 2), (16, 1), (7, 1), (9, 1), (15, 2)] {
+        let (mut records, mut out) = (vec![Record::default(); count], [77; 4]);
+        let bad = Description { fields: 0, ..d };
+        for description in [&d, &bad] {
+            let refused =
+                query_batch_bytes(description, 3, &sample.tree, d.kinds, &vec![0; bytes], &mut records, &mut out);
+            assert_eq!(refused, Err(refusal(Refused::RUNS, 0)));
+        }
+        assert_eq!((records, out), (vec![Record::default(); count], [77; 4]));
+    }
+    let bad = Description { fields: 0, ..d };
+    let answers = query_batch(&bad, 3, &sample.tree, &[&WINDOW, &WINDOW], &mut []);
+    assert_eq!(answers, [Err(refusal(Refused::DESCRIPTION, 0)); 2]);
+    assert_eq!(query_batch(&bad, 3, &sample.tree, &[], &mut []), []);
 }
 
 #[test]

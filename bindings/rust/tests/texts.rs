@@ -55,8 +55,9 @@ fn kinds_are_the_headers() {
 #[test]
 fn places_are_the_headers() {
     let mut places: BTreeMap<_, _> = places::ALL.iter().map(|(name, place)| (*name, *place as u64)).collect();
-    // a domain's kinds are the description's, and a list's length is the description's number of fields
-    places.extend([("DOMAIN_KIND", 0), ("FOOTER_LIST_PLACES", Description::MOST_FIELDS)]);
+    // a domain's kinds are the description's, a list's length is the description's number of fields, and a batch answers as
+    // many windows as it has records
+    places.extend([("DOMAIN_KIND", 0), ("FOOTER_LIST_PLACES", Description::MOST_FIELDS), ("BATCH_WINDOWS", 2)]);
     places.insert("REPORT_MOST", tussockbell::REPORT_MOST as u64);
     assert_eq!(part(|name| !is_kind(name) && !is_refusal(name) && !is_limit(name)), places);
 }
@@ -80,7 +81,7 @@ fn refusal_numbers_are_the_headers() {
     }
     let named = named!(
         DESCRIPTION BYTES VERSION NAME_SIZE FLAG DENSE NULL_DOMAIN NOT_A_NUMBER REVERSED TILES LAST_CELLS OFFSET FANOUT
-        LEVELS OUTSIDE_PARENT OUTSIDE_DOMAIN COUNT TILE_OFFSETS WINDOW SUM
+        LEVELS OUTSIDE_PARENT OUTSIDE_DOMAIN COUNT TILE_OFFSETS WINDOW SUM RUNS
     );
     let mut expected = BTreeMap::from(named);
     expected.insert("NOT_REFUSED", 0);

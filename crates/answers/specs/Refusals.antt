@@ -89,3 +89,7 @@ window = 19
 -- tile sizes add up past 2^64 - 1
 abbrev pub sizesSum : ℕ
 sizesSum = 20
+
+-- the answer run is not as long as the query run
+abbrev pub runs : ℕ
+runs = 22

@@ -51,6 +51,8 @@ impl Refusal {
 
     pub const SIZES_SUM: u64 = 20;
 
+    pub const RUNS: u64 = 22;
+
     pub fn none() -> Refusal
         ensures { λ r. ⌜ r ≡ none ⌝ }
     {

@@ -51,7 +51,7 @@ pub fn or_zero(test: bool, x: u64) -> u64
     if test { x } else { 0 }
 }
 
-fn dimensions_of(numbers: &[u8]) -> [Dimension; 4]
+pub fn dimensions_of(numbers: &[u8]) -> [Dimension; 4]
     ensures { λ r. ⌜ r ≡ numberedDimensions (now (numbers .entry)) ⌝ }
 {
     let a = Kind::of(number_at(numbers, 0));

@@ -74,6 +74,7 @@ fn answer(case: &[u8], a: &[u8], b: &[u8]) {
         6 => query_case(case, a, b),
         7 => opened_case(case, a, b),
         8 => var_offsets_case(case, a),
+        9 => batch_case(case, a, b),
         _ => (),
     }
     io::write_all(STDOUT_FILENO, b"\n");
@@ -262,6 +263,62 @@ fn query_case(case: &[u8], body: &[u8], asked: &[u8]) {
     let out: &mut [u32] = &mut space;
     lend(case, body, asked, out, room(case));
     places(out);
+}
+
+// Thirty-two windows of 104 bytes each, asked at once: their answers, and a buffer of 64 places of which `room` are
+// lent.
+fn batch_case(case: &[u8], body: &[u8], asked: &[u8]) {
+    let windows = windows(asked);
+    let mut space = [7u32; 64];
+    let out: &mut [u32] = &mut space;
+    let room = order::u64_at(case, 80);
+    if room <= out.len() as u64 {
+        let m = room as usize;
+        lend_batch(case, body, windows, &mut out[0..m]);
+    }
+    all_places(out);
+}
+
+fn windows(asked: &[u8]) -> [Window; 32] {
+    let mut windows = [window(asked); 32];
+    let mut i: usize = 0;
+    while i < 32 {
+        windows[i] = window_from(asked, 104 * i);
+        i += 1;
+    }
+    windows
+}
+
+fn window_from(asked: &[u8], at: usize) -> Window {
+    if at <= asked.len() {
+        return window(&asked[at..]);
+    }
+    window(asked)
+}
+
+fn lend_batch(case: &[u8], body: &[u8], windows: [Window; 32], out: &mut [u32]) {
+    let d = description(case);
+    let n = order::u64_at(case, 72);
+    let none = Answer {
+        number: 0,
+        place: 0,
+        found: 0,
+        looked: 0,
+    };
+    let answers = batch::query_32(d, n, body, windows, [none; 32], out);
+    let mut i: usize = 0;
+    while i < 32 {
+        answered(answers[i]);
+        i += 1;
+    }
+}
+
+fn all_places(out: &[u32]) {
+    let mut i: usize = 0;
+    while i < out.len() {
+        number(wide(out[i]));
+        i += 1;
+    }
 }
 
 // An opened tree, asked once. The second string is the window, of 104 bytes, and then the body.

@@ -7,6 +7,7 @@ pub enum Case {
     Footer { d: Description, file_size: u64, footer: Vec<u8>, tile: u64 },
     Open { d: Description, file_size: u64, footer: Vec<u8>, tree: Vec<u8> },
     Query { d: Description, tiles: u64, tree: Vec<u8>, kinds: Vec<u8>, ends: Vec<u8>, room: usize },
+    Batch { d: Description, tiles: u64, tree: Vec<u8>, kinds: Vec<u8>, windows: Vec<u8>, places: usize, room: usize },
     Offsets { var: bool, tiles: u64, size: u64, list: Vec<u8>, tile: u64 },
     Sizes { tiles: u64, list: Vec<u8> },
     Report { description: Vec<u8>, footer: Vec<u8>, tree: Vec<u8>, offsets: Vec<u8>, room: usize },
@@ -299,6 +300,37 @@ fn some_tiles(c: &mut Chance) -> u64 {
     }
 }
 
+/// A batch over a tree: windows of one run of kinds, some of them refused, and room that ends before, at, in the middle of and after what they find.
+fn batch(c: &mut Chance, d: Description, tiles: u64, tree: Vec<u8>) -> Case {
+    let (kinds, first) = window(c, &d);
+    let count = if c.one_in(40) { c.of(&[32, 33, 100]) } else { c.below(6) as usize };
+    let width = rules::window_width(&kinds);
+    let mut windows = first;
+    windows.truncate(width * count);
+    while windows.len() < width * count {
+        for kind in kinds.iter().take(*limits::DIMENSIONS.end() as usize) {
+            let k = rules::kind(*kind).unwrap_or(INT32).number;
+            let low = c.below(120) as i64 - 40;
+            let high = low + c.of(&[0i64, 3, 20, 100, 100, -1]);
+            let nans = nans(k);
+            let nan = !nans.is_empty() && c.one_in(30);
+            windows.extend(if nan { nans[c.below(nans.len() as u64) as usize].clone() } else { end(c, k, low) });
+            windows.extend(end(c, k, high));
+        }
+    }
+    if c.one_in(40) {
+        damage(c, &mut windows);
+    }
+    let places = crate::right::RECORD_PLACES * count;
+    let places = if c.one_in(20) { c.of(&[0, 1, places + 1, places.saturating_sub(1), places + 5, places.saturating_sub(5)]) } else { places };
+    let mut all = vec![0; 10_000];
+    let asked = rules::batch(&d, tiles, &tree, &kinds, &windows, count, &mut all).unwrap_or_default();
+    let used: usize = asked.iter().map(|one| one.used).sum();
+    let middle = asked.first().map_or(0, |one| one.used) + 1;
+    let room = c.of(&[0, used, used, used + 3, used.saturating_sub(1), middle.min(used), used / 2]);
+    Case::Batch { d, tiles, tree, kinds, windows, places, room }
+}
+
 fn list(c: &mut Chance, sum: bool) -> (u64, u64, Vec<u8>) {
     let n = some_tiles(c);
     let count = n.min(30);
@@ -404,6 +436,7 @@ pub fn parts(case: &mut Case) -> Vec<&mut Vec<u8>> {
         Case::Footer { footer, .. } => vec![footer],
         Case::Open { footer, tree, .. } => vec![footer, tree],
         Case::Query { tree, ends, .. } => vec![tree, ends],
+        Case::Batch { tree, kinds, windows, .. } => vec![tree, kinds, windows],
         Case::Offsets { list, .. } | Case::Sizes { list, .. } => vec![list],
         Case::Report { description, footer, tree, offsets, .. } => vec![description, footer, tree, offsets],
     }
@@ -435,6 +468,9 @@ pub fn make(c: &mut Chance) -> Case {
         }
         if c.one_in(3) {
             damage(c, &mut t.body);
+        }
+        if what == 3 {
+            return batch(c, d, tiles, t.body);
         }
         return Case::Query { d, tiles, tree: t.body, kinds, ends, room: c.below(t.tiles + 3) as usize };
     }
@@ -475,6 +511,8 @@ pub enum Slip {
     LastExtent,
     LastFull,
     NoEmptyTile,
+    AnewAtTheStart,
+    RefusedTakesAPlace,
 }
 
 /// What a library with this slip would answer, where the slip has a say in the case.
@@ -500,6 +538,22 @@ pub fn wrong(case: &Case, slip: Slip) -> Option<(Vec<u64>, Vec<u32>)> {
         (Case::Offsets { var: true, tiles, size, list, tile }, Slip::NoEmptyTile) => {
             let (tiles, size, list, tile) = (*tiles, *size, list.clone(), *tile);
             Some(crate::right(&Case::Offsets { var: false, tiles, size, list, tile }))
+        }
+        (Case::Batch { d, tiles, tree, kinds, windows, .. }, Slip::AnewAtTheStart | Slip::RefusedTakesAPlace) => {
+            let (answer, mut out) = crate::right(case);
+            if answer[0] != 0 {
+                return None;
+            }
+            let width = rules::window_width(kinds);
+            let (mut free, before) = (0, |i: usize| 0xdead_0000 + i as u32);
+            out.iter_mut().enumerate().for_each(|(i, place)| *place = before(i));
+            for ends in windows.chunks(width.max(1)) {
+                let found = rules::query(d, *tiles, tree, kinds, ends).map_or(None, |(found, _)| Some(found));
+                let fits = found.as_ref().map_or(1, Vec::len).min(out.len() - free);
+                out[free..free + fits].copy_from_slice(&found.unwrap_or(vec![0])[..fits]);
+                free = if matches!(slip, Slip::AnewAtTheStart) { 0 } else { free + fits };
+            }
+            Some((answer, out))
         }
         (Case::Footer { d, file_size, footer, tile }, Slip::LastFull) => {
             let f = rules::footer(d, *file_size, footer).ok()?;

@@ -16,6 +16,10 @@ extern "C" {
         k: *const u8, kl: usize, fields: u64, capacity: u64, tiles: u64, t: *const u8, tl: usize, wk: *const u8, wkl: usize, we: *const u8, wel: usize,
         out: *mut u32, ol: usize, answer: *mut u64,
     );
+    fn tussockbell_query_batch(
+        k: *const u8, kl: usize, fields: u64, capacity: u64, tiles: u64, t: *const u8, tl: usize, wk: *const u8, wkl: usize, w: *const u8, wl: usize,
+        records: *mut u64, rl: usize, out: *mut u32, ol: usize, answer: *mut u64,
+    );
     fn tussockbell_offsets(tiles: u64, size: u64, l: *const u8, ll: usize, answer: *mut u64);
     fn tussockbell_extent(tiles: u64, size: u64, l: *const u8, ll: usize, tile: u64, answer: *mut u64);
     fn tussockbell_var_offsets(tiles: u64, size: u64, l: *const u8, ll: usize, answer: *mut u64);
@@ -74,6 +78,26 @@ pub fn ask(case: &Case, mut space: Option<&mut Space>) -> (Vec<u64>, Vec<u32>) {
                 tussockbell_query(
                     k, d.kinds.len(), d.fields, d.capacity, *tiles, t, tree.len(), wk, kinds.len(), we, ends.len(), out, *room, answer.as_mut_ptr(),
                 );
+                (answer, std::slice::from_raw_parts(out, *room).to_vec())
+            }
+        }
+        Case::Batch { d, tiles, tree, kinds, windows, places, room } => {
+            let (k, t) = (lend(&d.kinds, &mut space), lend(tree, &mut space));
+            let (wk, w) = (lend(kinds, &mut space), lend(windows, &mut space));
+            let before: Vec<u32> = (0..*room as u32).map(|i| 0xdead_0000 + i).collect();
+            let (mut own, mut records) = (before.clone(), vec![u64::MAX; *places]);
+            let bytes: Vec<u8> = before.iter().flat_map(|x| x.to_ne_bytes()).collect();
+            let (out, r) = match &mut space {
+                Some(_) => (lend(&bytes, &mut space) as *mut u32, lend(&vec![255; 8 * places], &mut space) as *mut u64),
+                None => (own.as_mut_ptr(), records.as_mut_ptr()),
+            };
+            let mut answer = vec![u64::MAX; 3];
+            unsafe {
+                tussockbell_query_batch(
+                    k, d.kinds.len(), d.fields, d.capacity, *tiles, t, tree.len(), wk, kinds.len(), w, windows.len(), r, *places, out, *room,
+                    answer.as_mut_ptr(),
+                );
+                answer.extend(std::slice::from_raw_parts(r, *places));
                 (answer, std::slice::from_raw_parts(out, *room).to_vec())
             }
         }

@@ -29,7 +29,9 @@ fn slips(seed: u64) {
     let last_extent = |case: &Case| cases::wrong(case, cases::Slip::LastExtent);
     let last_full = |case: &Case| cases::wrong(case, cases::Slip::LastFull);
     let no_empty_tile = |case: &Case| cases::wrong(case, cases::Slip::NoEmptyTile);
-    let all: [(&str, &dyn Fn(&Case) -> Option<(Vec<u64>, Vec<u32>)>); 7] = [
+    let anew = |case: &Case| cases::wrong(case, cases::Slip::AnewAtTheStart);
+    let refused_takes = |case: &Case| cases::wrong(case, cases::Slip::RefusedTakesAPlace);
+    let all: [(&str, &dyn Fn(&Case) -> Option<(Vec<u64>, Vec<u32>)>); 9] = [
         ("strict comparison", &strict),
         ("int32 compared as unsigned", &unsigned),
         ("full rows only", &full_rows),
@@ -37,6 +39,8 @@ fn slips(seed: u64) {
         ("the last extent as the next offset", &last_extent),
         ("the last tile as full", &last_full),
         ("var offsets as those of tiles of fixed size", &no_empty_tile),
+        ("each window of a batch from the buffer's start", &anew),
+        ("a refused window that takes a place", &refused_takes),
     ];
     for (name, wrong) in all {
         let caught = (0..200_000).any(|i| {
@@ -112,7 +116,7 @@ fn main() {
         }
     }
     if first == 0 && inputs >= 100_000 {
-        for number in 0..=rules::refusal::SUM {
+        for number in (0..=rules::refusal::SUM).chain([rules::refusal::RUNS]) {
             assert!(tally.refusals.contains_key(&number), "no input was refused with {number}");
         }
         assert!(tally.guarded >= 5_000);

@@ -3,6 +3,9 @@
 use crate::cases::Case;
 use crate::rules::{self, Refused};
 
+/// The numbers of a record: those of a query, and the places that the window used.
+pub const RECORD_PLACES: usize = 5;
+
 fn refused(r: &Refused, rest: usize) -> Vec<u64> {
     let mut answer = vec![r.number, r.place];
     answer.resize(2 + rest, 0);
@@ -31,6 +34,29 @@ pub fn right(case: &Case) -> (Vec<u64>, Vec<u32>) {
                 }
                 Err(r) => (refused(&r, 2), out),
             }
+        }
+        Case::Batch { d, tiles, tree, kinds, windows, places, room } => {
+            let mut out: Vec<u32> = (0..*room as u32).map(|i| 0xdead_0000 + i).collect();
+            let records = places / RECORD_PLACES;
+            let asked = if places % RECORD_PLACES == 0 {
+                rules::batch(d, *tiles, tree, kinds, windows, records, &mut out)
+            } else {
+                rules::refuse(rules::refusal::RUNS, 0)
+            };
+            let Ok(asked) = asked else {
+                let mut answer = vec![rules::refusal::RUNS, 0, 0];
+                answer.resize(3 + places, u64::MAX);
+                return (answer, out);
+            };
+            let mut answer = vec![0, 0, records as u64];
+            for one in asked {
+                answer.extend(match one.answer {
+                    Ok((found, looked)) => vec![0, 0, found, looked],
+                    Err(r) => refused(&r, 2),
+                });
+                answer.push(one.used as u64);
+            }
+            (answer, out)
         }
         Case::Offsets { var, tiles, size, list, tile } => {
             let checked = if *var { rules::var_offsets } else { rules::offsets }(*tiles, *size, list);

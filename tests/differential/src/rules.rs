@@ -55,6 +55,7 @@ pub mod refusal {
     pub const TILE_OFFSETS: u64 = 18;
     pub const WINDOW: u64 = 19;
     pub const SUM: u64 = 20;
+    pub const RUNS: u64 = 22;
 }
 
 #[derive(Clone, Copy, Debug, PartialEq)]
@@ -386,6 +387,39 @@ fn look(d: &Description, s: &Shape, body: &[u8], window: &[Range], level: usize,
     for child in k * s.fanout..(k * s.fanout + s.fanout).min(s.counts[level + 1]) {
         look(d, s, body, window, level + 1, child, found, looked);
     }
+}
+
+/// What a batch says of one window: what the query says, and the places that it uses.
+pub struct Record {
+    pub answer: Answer<(u64, u64)>,
+    pub used: usize,
+}
+
+/// The bytes of a window in a run of them: a number that is no kind counts as int32, and of more than four numbers the first four count.
+pub fn window_width(kinds: &[u8]) -> usize {
+    let most = *limits::DIMENSIONS.end() as usize;
+    kinds.iter().take(most).map(|number| kind(*number).unwrap_or(INT32).range_bytes).sum()
+}
+
+/// Each window of a batch in turn, with the places from the first that is free on. Before that: the windows' bytes are those of as many windows
+/// as there are records.
+pub fn batch(d: &Description, n: u64, body: &[u8], kinds: &[u8], windows: &[u8], records: usize, out: &mut [u32]) -> Answer<Vec<Record>> {
+    let width = window_width(kinds);
+    if windows.len() != records * width {
+        return refuse(refusal::RUNS, 0);
+    }
+    let mut free = 0;
+    Ok((0..records)
+        .map(|i| match query(d, n, body, kinds, &windows[i * width..(i + 1) * width]) {
+            Ok((found, looked)) => {
+                let used = found.len().min(out.len() - free);
+                out[free..free + used].copy_from_slice(&found[..used]);
+                free += used;
+                Record { answer: Ok((found.len() as u64, looked)), used }
+            }
+            Err(r) => Record { answer: Err(r), used: 0 },
+        })
+        .collect())
 }
 
 /// The flat listing and the flat count of a body whose shape is right.

@@ -1,0 +1,3 @@
+-- The definitions that this crate's contracts, and every crate above, cite.
+pub mod Batch
+pub mod Code

@@ -1,0 +1,2 @@
+-- The definitions that the exported function's contract cites.
+pub mod Lent
