@@ -192,6 +192,11 @@ static inline const char *tussockbell_refusal_text(uint64_t number)
 #define TUSSOCKBELL_RECORD_USED 4
 #define TUSSOCKBELL_RECORD_PLACES 5
 
+/* tussockbell_box_test. MEETS is 1 where the box meets the window, else 0. */
+#define TUSSOCKBELL_BOX_TEST_MEETS 2
+#define TUSSOCKBELL_BOX_TEST_READ 3
+#define TUSSOCKBELL_BOX_TEST_PLACES 4
+
 /* tussockbell_offsets and tussockbell_var_offsets */
 #define TUSSOCKBELL_OFFSETS_TILES 2
 #define TUSSOCKBELL_OFFSETS_PLACES 3
@@ -258,6 +263,16 @@ void tussockbell_query_batch(const uint8_t *kinds, size_t kinds_length, uint64_t
                              const uint8_t *tree, size_t tree_length, const uint8_t *window_kinds, size_t window_kinds_length,
                              const uint8_t *windows, size_t windows_length, uint64_t *records, size_t records_length,
                              uint32_t *out, size_t out_length, uint64_t *answer /* [TUSSOCKBELL_BATCH_PLACES] */);
+
+/* Does one box, in its bytes, meet a window, and how many of its dimensions are read for that? It is the query's own
+ * test, which leaves at the first dimension that misses: the number is exactly one more than that dimension's, from 0,
+ * or that of all dimensions where the box meets. A stored range with NaN is a miss, and the box is not checked
+ * otherwise. The description comes first, then the window, as tussockbell_query has it, and then
+ * TUSSOCKBELL_REFUSED_BYTES for a number of bytes that is not a box's. */
+void tussockbell_box_test(const uint8_t *kinds, size_t kinds_length, uint64_t fields, uint64_t capacity, const uint8_t *box,
+                          size_t box_length, const uint8_t *window_kinds, size_t window_kinds_length,
+                          const uint8_t *window_ends, size_t window_ends_length,
+                          uint64_t *answer /* [TUSSOCKBELL_BOX_TEST_PLACES] */);
 
 /* Checks the tile offsets of a data file of `size` bytes. */
 void tussockbell_offsets(uint64_t tiles, uint64_t size, const uint8_t *list, size_t list_length,

@@ -81,6 +81,18 @@ static void batch(const uint8_t *tree, size_t length, size_t room, size_t places
            tussockbell_refusal_text(answer[TUSSOCKBELL_NUMBER]), out[0], out[1], out[2], out[3], out[4]);
 }
 
+/* A box from 0 to 4 and from 10 to 14, against a window that reaches to 9 and to 19. */
+static void box_test(size_t length, int32_t first, int32_t second)
+{
+    const uint8_t both[2] = {TUSSOCKBELL_INT32, TUSSOCKBELL_INT32};
+    uint8_t box[16], ends[16];
+    uint64_t answer[TUSSOCKBELL_BOX_TEST_PLACES];
+    range(box, range(box, 0, 0, 4), 10, 14);
+    range(ends, range(ends, 0, first, 9), second, 19);
+    tussockbell_box_test(both, 2, 1, 32, box, length, both, 2, ends, sizeof ends, answer);
+    show("box test", answer, TUSSOCKBELL_BOX_TEST_PLACES);
+}
+
 int main(void)
 {
     uint8_t tree[80];
@@ -106,6 +118,11 @@ int main(void)
     batch(tree, length, 4, 15);
     batch(tree, length, 5, 10);
     batch(tree, length, 5, 14);
+    box_test(16, 4, 14);
+    box_test(16, 4, 15);
+    box_test(16, 5, 15);
+    box_test(15, 5, 15);
+    box_test(15, 5, 20);
 
     uint8_t footer[256];
     size_t footer_length = footer_bytes(footer);

@@ -278,6 +278,35 @@ class Generated(Same):
         self.assertGreater(hits, 400)
         self.assertLessEqual({2, 8, 9, 13, 14, 19}, self.refusals)
 
+    def test_box_tests(self):
+        chance = random.Random(3)
+        numbers_read = set()
+        for _ in range(150):
+            f = random_fragment(chance)
+            for _ in range(12):
+                window, kinds, numbers = f.window()
+                box = pieces.box(f.kinds, chance.choice(f.boxes))
+                for stored in (box, f.damaged(box)):
+                    expected = outcome(rules.box_test, f.known, stored, kinds, numbers)
+                    self.same(outcome(tb.box_test, f.given, stored, window), expected)
+                    numbers_read.add(expected)
+        self.assertGreater(self.compared, 3000)
+        self.assertLessEqual({(False, 1), (False, 2), (False, 3), (True, 1), (True, 2), (True, 3)}, numbers_read)
+        self.assertLessEqual({2, 8, 9, 19}, self.refusals)
+
+    def test_first_miss(self):
+        for kind, known in rules.KINDS.items():
+            ends = [(20, 30), (-30, -20)] + [(math.nan, 5), (5, math.nan)] * (not known.whole)
+            for dimensions in range(1, 5):
+                d, window = tb.Description([kind] * dimensions, 1, 32), [(0, 10)] * dimensions
+                met = [(10, 12)] * dimensions
+                self.assertEqual(tb.box_test(d, pieces.box(d.kinds, met), window), (True, dimensions))
+                for miss in range(dimensions):
+                    for end in ends:
+                        for rest in ((0, 1), (20, 30)):
+                            sides = met[:miss] + [end] + [rest] * (dimensions - miss - 1)
+                            self.assertEqual(tb.box_test(d, pieces.box(d.kinds, sides), window), (False, miss + 1))
+
     def test_bad_descriptions(self):
         f = Fragment(["int32"], 3, 2, 1, random.Random(3))
         for given in BAD_DESCRIPTIONS:
@@ -852,7 +881,7 @@ class Header(unittest.TestCase):
         """Parameters and results as the header declares them."""
         types = {"uint64_t": ctypes.c_uint64, "size_t": ctypes.c_size_t, "void": None}
         declared = re.findall(r"^(\w+) tussockbell_(\w+)\(([^;{]*)\);", self.header, re.M)
-        self.assertEqual(len(declared), 14)
+        self.assertEqual(len(declared), 15)
         asked = {name for name in vars(tb) if name.startswith("_c_")}
         self.assertEqual({"_c_" + name for _, name, _ in declared} - asked, {"_c_extent", "_c_var_extent", "_c_report"})
         for result, name, parameters in declared:

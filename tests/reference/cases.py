@@ -414,6 +414,47 @@ def tree_cases(cases):
                 ask(d, n, b, kinds, [(low, high)] * len(kinds))
 
 
+def box_test_cases(cases):
+    """One box and a window: a first miss in each dimension, of each kind, below, above and by NaN; refusals."""
+
+    def ask(d, box, kinds, window, dimensions=None):
+        try:
+            if dimensions is not None and dimensions != len(kinds):
+                d.check()
+                raise Refused(Refusal.WINDOW, 0)
+            meets, read = rules.box_test(d, box, kinds, numbers_of(kinds, window))
+            answer = [0, 0, int(meets), read]
+        except Refused as r:
+            answer = [r.number, r.place, 0, 0]
+        cases.add(10, d, [], box, window_bytes(kinds, window, dimensions), text(answer))
+
+    mixes = [["int32", "float64", "int64", "float32"], ["float32", "int64"], ["float64", "int32", "float32"]]
+    for kinds in [[kind] * n for kind in KINDS for n in range(1, MOST_DIMENSIONS + 1)] + mixes:
+        d, window = Description(kinds, 1, 32), [(-4, 9)] * len(kinds)
+        ask(d, pieces.box(kinds, [(-7, -4)] * len(kinds)), kinds, window)
+        for first in range(len(kinds)):
+            sides = [(9, 20)] * first + [(-9, -5)] + [(10, 11)] * (len(kinds) - first - 1)
+            ask(d, pieces.box(kinds, sides), kinds, window)
+            for sides in ([(NAN32 if kinds[first] == "float32" else NAN64, 3), (3, NAN32 if kinds[first] == "float32" else NAN64)]):
+                if not KINDS[kinds[first]].whole:
+                    ask(d, pieces.box(kinds, [(0, 1)] * first + [sides] + [(0, 1)] * (len(kinds) - first - 1)), kinds, window)
+    # a reversed stored range goes by the formula
+    two = Description(["int32", "int64"], 1, 32)
+    good, window = pieces.box(two.kinds, [(0, 4), (10, 14)]), [(4, 4), (10, 14)]
+    for side in ((5, 3), (3, 5), (4, -1)):
+        ask(two, pieces.box(two.kinds, [side, (10, 14)]), two.kinds, window)
+    # 1, the window, the bytes, in that order
+    ask(two, good, two.kinds, window)
+    for bad in (Description(two.kinds, 0, 32), Description(two.kinds, 1, 32, 0), Description(two.kinds, 1, 32, MOST_DIMENSIONS + 1)):
+        ask(bad, b"", two.kinds, [(5, 3), (10, 14)])
+    ask(two, b"", two.kinds, window, 1)
+    ask(two, b"", ["int64", "int64"], window)
+    ask(two, b"", ["int32", "int32"], [(5, 3), (10, 14)])
+    ask(two, b"", two.kinds, [(4, 4), (14, 10)])
+    for box in (b"", good[:8], good[:-1], good + b"\0", good + good):
+        ask(two, box, two.kinds, window)
+
+
 def fixture_cases(cases):
     """The fixture files through the library: opening, each window, the lists."""
     none = Description([], 0, 0)
@@ -446,6 +487,7 @@ def main():
     footer_cases(cases)
     list_cases(cases)
     tree_cases(cases)
+    box_test_cases(cases)
     fixture_cases(cases)
     size = sum(map(len, cases.asked))
     assert size < SPACE

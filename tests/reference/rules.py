@@ -312,6 +312,17 @@ def batch(d, n, body, windows, answers, out):
     return records, out
 
 
+def box_test(d, box, kinds, window):
+    """Whether one box meets the window, and how many of its dimensions are read up to the first that misses."""
+    d.check()
+    check_window(d, kinds, window)
+    if len(box) != d.box_bytes():
+        raise Refused(Refusal.BYTES, len(box))
+    sides = stored_box(d, box, 0)
+    misses = [i for i, (b, w) in enumerate(zip(sides, window)) if not (b[0] <= w[1] and w[0] <= b[1])]
+    return not misses, misses[0] + 1 if misses else len(sides)
+
+
 def open_and_ask(d, file_size, footer_data, body, kinds, window):
     """An opened tree, asked. A refused one holds an empty body and n 0, and the description that was given."""
     try:

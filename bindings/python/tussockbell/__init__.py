@@ -42,7 +42,7 @@ from typing import Any, NamedTuple, Optional, SupportsFloat, SupportsIndex, Tupl
 
 __all__ = [
     "Description", "Footer", "Hit", "Offsets", "Refused", "Tree", "Window",
-    "open_tree", "query", "query_batch", "read_footer", "tile_offsets", "tile_sizes", "var_tile_offsets",
+    "box_test", "open_tree", "query", "query_batch", "read_footer", "tile_offsets", "tile_sizes", "var_tile_offsets",
 ]
 
 __version__ = "0.2.0"
@@ -95,6 +95,7 @@ _NAME_START, _NAME_LENGTH, _NAME_PLACES = 0, 1, 2
 _OPEN_WHICH, _OPEN_TILES, _OPEN_FANOUT, _OPEN_LEVELS, _OPEN_PLACES = 2, 3, 4, 5, 6
 _QUERY_FOUND, _QUERY_LOOKED, _QUERY_PLACES = 2, 3, 4
 _BATCH_WINDOWS, _BATCH_PLACES, _RECORD_USED, _RECORD_PLACES = 2, 3, 4, 5
+_BOX_TEST_MEETS, _BOX_TEST_READ, _BOX_TEST_PLACES = 2, 3, 4
 _OFFSETS_TILES, _OFFSETS_PLACES = 2, 3
 _EXTENT_OFFSET, _EXTENT_LENGTH, _EXTENT_PLACES = 0, 1, 2
 _SIZES_SUM, _SIZES_PLACES = 2, 3
@@ -144,6 +145,7 @@ _c_total_cells = _function("total_cells", _footer, _u64)
 _c_open = _function("open", [*_footer, *_bytes, _pointer])
 _c_query = _function("query", [*_description, _u64, *_bytes, *_bytes, *_bytes, *_bytes, _pointer])
 _c_query_batch = _function("query_batch", [*_description, _u64, *_bytes, *_bytes, *_bytes, *_bytes, *_bytes, _pointer])
+_c_box_test = _function("box_test", [*_description, *_bytes, *_bytes, *_bytes, _pointer])
 _c_offsets = _function("offsets", [*_list, _pointer])
 _c_var_offsets = _function("var_offsets", [*_list, _pointer])
 _c_extent_at = _function("extent_at", [*_list, _u64, _pointer])
@@ -154,6 +156,7 @@ _NameAnswer = _u64 * _NAME_PLACES
 _OpenAnswer = _u64 * _OPEN_PLACES
 _QueryAnswer = _u64 * _QUERY_PLACES
 _BatchAnswer = _u64 * _BATCH_PLACES
+_BoxTestAnswer = _u64 * _BOX_TEST_PLACES
 _OffsetsAnswer = _u64 * _OFFSETS_PLACES
 _ExtentAnswer = _u64 * _EXTENT_PLACES
 _SizesAnswer = _u64 * _SIZES_PLACES
@@ -647,6 +650,21 @@ def query_batch(
     """
     with _lend(tree) as view:
         return _ask_batch(description, _limited(tiles), _lent(view), windows, room)
+
+
+def box_test(description: Description, box: Bytes, window: Union[Window, Iterable[Range]]) -> tuple[bool, int]:
+    """Does one box, in its bytes, meet a window, and how many of its dimensions are read for that?
+
+    It is the query's own test, which leaves at the first dimension that misses: the number is one more than that dimension's,
+    counted from 0, or that of all dimensions where the box meets. A stored range with NaN is a miss. The box is not checked
+    otherwise, but for its number of bytes.
+    """
+    kinds, ends = _given_window(description._given[0], window)
+    answer = _BoxTestAnswer()
+    with _lend(box) as view:
+        _c_box_test(*description._given, *_lent(view), kinds, len(kinds), ends, len(ends), answer)
+    _check(answer)
+    return bool(answer[_BOX_TEST_MEETS]), answer[_BOX_TEST_READ]
 
 
 class Tree:

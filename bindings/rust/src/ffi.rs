@@ -8,8 +8,8 @@
 
 use crate::batch::Record;
 use crate::places::{
-    BATCH_PLACES, EXTENT_PLACES, FOOTER_PLACES, NAME_PLACES, OFFSETS_PLACES, OPEN_PLACES, QUERY_PLACES, RECORD_PLACES,
-    SIZES_PLACES,
+    BATCH_PLACES, BOX_TEST_PLACES, EXTENT_PLACES, FOOTER_PLACES, NAME_PLACES, OFFSETS_PLACES, OPEN_PLACES,
+    QUERY_PLACES, RECORD_PLACES, SIZES_PLACES,
 };
 use crate::{Description, Kind};
 
@@ -34,6 +34,9 @@ extern "C" {
                                tree: *const u8, tree_length: usize, window_kinds: *const u8, window_kinds_length: usize,
                                windows: *const u8, windows_length: usize, records: *mut u64, records_length: usize,
                                out: *mut u32, out_length: usize, answer: *mut u64);
+    fn tussockbell_box_test(kinds: *const u8, kinds_length: usize, fields: u64, capacity: u64, stored: *const u8,
+                            stored_length: usize, window_kinds: *const u8, window_kinds_length: usize,
+                            window_ends: *const u8, window_ends_length: usize, answer: *mut u64);
     fn tussockbell_offsets(tiles: u64, size: u64, list: *const u8, list_length: usize, answer: *mut u64);
     fn tussockbell_var_offsets(tiles: u64, size: u64, list: *const u8, list_length: usize, answer: *mut u64);
     fn tussockbell_extent_at(tiles: u64, size: u64, list: *const u8, list_length: usize, tile: u64, answer: *mut u64);
@@ -156,6 +159,32 @@ pub(crate) fn query_batch(
             records.len() * RECORD_PLACES,
             out.as_mut_ptr(),
             out.len(),
+            answer.as_mut_ptr(),
+        )
+    };
+    answer
+}
+
+pub(crate) fn box_test(
+    d: &Description,
+    stored: &[u8],
+    window_kinds: &[Kind],
+    window_ends: &[u8],
+) -> [u64; BOX_TEST_PLACES] {
+    let mut answer = [0; BOX_TEST_PLACES];
+    // SAFETY: pointers and lengths of slices, and an answer array of the header's places.
+    unsafe {
+        tussockbell_box_test(
+            bytes(d.kinds),
+            d.kinds.len(),
+            d.fields,
+            d.capacity,
+            stored.as_ptr(),
+            stored.len(),
+            bytes(window_kinds),
+            window_kinds.len(),
+            window_ends.as_ptr(),
+            window_ends.len(),
             answer.as_mut_ptr(),
         )
     };

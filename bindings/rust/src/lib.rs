@@ -7,6 +7,7 @@
 //! - [`read_footer`] reads the footer of `__fragment_metadata.tdb`: every number of it.
 //! - [`open_tree`] opens a footer and an R-tree together and checks every box; the [`Tree`] answers windows.
 //! - [`query`] answers a window over a tree's plain bytes, [`query_batch`] all windows of a batch in one call.
+//! - [`box_test`] tests one box against a window, and tells how many dimensions it read.
 //! - [`tile_offsets`], [`var_tile_offsets`] and [`tile_sizes`] read a field's lists.
 //! - [`report`] writes the report of four files as text.
 //!
@@ -53,7 +54,7 @@ pub use footer::{read_footer, Footer};
 pub use lists::{tile_offsets, tile_sizes, var_tile_offsets, Extent, TileOffsets};
 pub use ranges::{Description, Kind, Range};
 pub use refused::{Refused, Which};
-pub use tree::{open_tree, query, Answer, Tree};
+pub use tree::{box_test, open_tree, query, Answer, Tested, Tree};
 
 /// The version of this crate, which is that of the library and its header.
 pub const VERSION: &str = env!("CARGO_PKG_VERSION");

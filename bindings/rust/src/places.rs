@@ -56,6 +56,9 @@ places! {
     BATCH_PLACES = 3;
     RECORD_USED = 4;
     RECORD_PLACES = 5;
+    BOX_TEST_MEETS = 2;
+    BOX_TEST_READ = 3;
+    BOX_TEST_PLACES = 4;
     OFFSETS_TILES = 2;
     OFFSETS_PLACES = 3;
     EXTENT_OFFSET = 0;

@@ -1,7 +1,9 @@
 //! The R-tree: opening it, and asking which tiles a window touches.
 
 use crate::ffi::{self, Asked};
-use crate::places::{OPEN_FANOUT, OPEN_LEVELS, OPEN_TILES, OPEN_WHICH, QUERY_FOUND, QUERY_LOOKED};
+use crate::places::{
+    BOX_TEST_MEETS, BOX_TEST_READ, OPEN_FANOUT, OPEN_LEVELS, OPEN_TILES, OPEN_WHICH, QUERY_FOUND, QUERY_LOOKED,
+};
 use crate::ranges::Window;
 use crate::{Description, Range, Refused, Which};
 use std::fmt;
@@ -49,6 +51,37 @@ pub fn query<'b>(
     let found = answer[QUERY_FOUND];
     let fits = out.len().min(found as usize);
     Ok(Answer { tiles: &out[..fits], found, looked: answer[QUERY_LOOKED] })
+}
+
+/// What a box test says.
+#[derive(Clone, Copy, Debug, PartialEq, Eq)]
+pub struct Tested {
+    /// Whether the box meets the window in each dimension.
+    pub meets: bool,
+    /// How many dimensions were read for that: one more than the first that misses, from 0, or all of them.
+    pub read: u64,
+}
+
+/// Does one box, in its bytes, meet a window, and how many of its dimensions are read for that?
+///
+/// It is the query's own test, which leaves at the first dimension that misses. A stored range with NaN is a miss. The
+/// box is not checked otherwise, but for its number of bytes.
+///
+/// ```
+/// use tussockbell::{box_test, Description, Kind, Range};
+///
+/// let description = Description { kinds: &[Kind::Int32, Kind::Int32], fields: 1, capacity: 32 };
+/// let stored = [0, 0, 0, 0, 4, 0, 0, 0, 10, 0, 0, 0, 14, 0, 0, 0]; // 0 to 4, and 10 to 14
+/// let test = |first, second| box_test(&description, &stored, &[Range::Int32(first, 9), Range::Int32(second, 19)]);
+/// assert_eq!(test(4, 14).map(|t| (t.meets, t.read)), Ok((true, 2)));
+/// assert_eq!(test(4, 15).map(|t| (t.meets, t.read)), Ok((false, 2)));
+/// assert_eq!(test(5, 15).map(|t| (t.meets, t.read)), Ok((false, 1)));
+/// ```
+pub fn box_test(description: &Description, stored: &[u8], window: &[Range]) -> Result<Tested, Refused> {
+    let window = Window::new(window);
+    let answer = ffi::box_test(description, stored, window.kinds(), window.ends());
+    Refused::check(&answer, Which::First)?;
+    Ok(Tested { meets: answer[BOX_TEST_MEETS] == 1, read: answer[BOX_TEST_READ] })
 }
 
 /// An accepted tree, which can be asked many times.

@@ -21,7 +21,7 @@ rules_modules! {
 use cases::{Case, Chance};
 use right::right;
 use std::collections::BTreeSet;
-use tussockbell::{open_tree, query, query_batch, query_batch_bytes, read_footer, report};
+use tussockbell::{box_test, open_tree, query, query_batch, query_batch_bytes, read_footer, report};
 use tussockbell::{tile_offsets, tile_sizes, var_tile_offsets};
 use tussockbell::{Description, Footer, Kind, Range, Record, Refused, Tree, Which};
 
@@ -182,6 +182,11 @@ fn ask(case: &Case, out: &mut Vec<u32>) -> Result<Vec<u64>, Refused> {
             }
             Ok(numbers)
         }
+        Case::BoxTest { d, stored, kinds: window_kinds, ends } => {
+            let (own, window_kinds) = (kinds(&d.kinds)?, kinds(window_kinds).unwrap());
+            let tested = box_test(&described(d, &own), stored, &window(&window_kinds, ends))?;
+            Ok(vec![0, 0, tested.meets.into(), tested.read])
+        }
         Case::Offsets { var, tiles, size, list, tile } => {
             let offsets = if *var { var_tile_offsets } else { tile_offsets }(*tiles, *size, list)?;
             let extents: Vec<_> = offsets.iter().map(|e| (e.offset, e.length)).collect();
@@ -230,7 +235,7 @@ fn compare(case: &Case, made: u64) -> Option<Refused> {
 /// Whether the types can say a case: a window's kinds have to be kinds.
 fn can_be_said(case: &Case) -> bool {
     match case {
-        Case::Query { kinds: numbers, .. } => kinds(numbers).is_ok(),
+        Case::Query { kinds: numbers, .. } | Case::BoxTest { kinds: numbers, .. } => kinds(numbers).is_ok(),
         Case::Batch { d, kinds: numbers, places, .. } => {
             kinds(numbers).is_ok() && kinds(&d.kinds).is_ok() && places % right::RECORD_PLACES == 0
         }

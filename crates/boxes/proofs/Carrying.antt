@@ -1,24 +1,23 @@
 -- What is carried of a box: the ends of each side come back as they were put there, and fit their kind.
 -- Assumes nothing.
-use mathlib.Core.Path.{_≡_, refl, ap, _∙_, subst}
+use mathlib.Core.Path.{_≡_, refl, subst}
 use mathlib.Core.List.{List, [], _∷_}
 use Prim.Native.Nat.{ℕ, zero, suc, _+_, _*_, _^_, _≤_, _<_}
-use native.Mathlib.Nat.{zero-add, mod-lt}
+use native.Mathlib.Nat.{mod-lt}
 use native.Mathlib.Decide.{decLt}
 use native.Mathlib.Omega.{arith}
 use lib.ListN.{getD, set}
 use borrow.Author.Tests.{lt-ltb}
 use Rattle.answers.specs.Runs.{over}
-use Rattle.answers.proofs.Filled.{row-at}
 use Rattle.description.specs.declared.Kind.{Kind}
 use Rattle.description.specs.declared.Dimension.{Dimension}
 use Rattle.description.specs.declared.Kind.the-variants.{Int32, Int64, Float32, Float64}
-use Rattle.description.specs.Kinds.{endBytes, datatype}
+use Rattle.description.specs.Kinds.{endBytes}
 use Rattle.description.specs.Description.{kindAt, sideStart}
 use Rattle.ranges.specs.Ranges.{Ends, endsAt, fitted}
 use Rattle.ranges.proofs.Reading.{fitted-same, ends-at-fit}
 use Rattle.boxes.specs.Boxes.{sideAt}
-use Rattle.boxes.specs.Code.Carried.{carriedSide, datatypes, carried, endsIn, Fitting}
+use Rattle.boxes.specs.Code.Carried.{carriedSide, carried, endsIn, Fitting}
 
 -- filled side by side
 module _ (side : ℕ → Ends) where
@@ -69,11 +68,6 @@ carried-again kinds m bytes byte i h l =
       fitted-same k _ (ends-at-fit bytes byte k (sideStart kinds i) .0),
       fitted-same k _ (ends-at-fit bytes byte k (sideStart kinds i) .1),
     )
-
--- the kinds
-pub datatype-at : (kinds : List Dimension) (i : ℕ) → i < 4 → getD (datatypes kinds) i 0 ≡ datatype (kindAt kinds i)
-unfolding datatypes
-datatype-at kinds i l = row-at _ 0 4 i 0 l ∙ rw zero-add
 
 -- a window's ends, as a loop carries them side by side: what its sides have fits, and so does what is carried
 module _ (side : ℕ → Ends) (kind : ℕ → Kind) where

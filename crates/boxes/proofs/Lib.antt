@@ -5,3 +5,4 @@ pub mod Boxes
 pub mod Moving
 pub mod Within
 pub mod Windows
+pub mod ReadTo

@@ -1,6 +1,6 @@
 -- A box is a range per dimension, one after the other.
 -- Assumes nothing.
-use Prim.Native.Nat.{ℕ, _+_}
+use Prim.Native.Nat.{ℕ, zero, suc, _+_}
 use mathlib.Core.Bool.{Bool, true, not, _&&_, cond}
 use mathlib.Core.List.{List, [], _∷_}
 use lib.Dec.{ltb}
@@ -32,6 +32,11 @@ rangeIn sides i = getD sides i (record { range = I32 (pos 0) (pos 0) }) .range
 abbrev pub all : (ℕ → Bool) → ℕ → ℕ → Bool
 all = over _&&_ true
 
+-- how many of a run are read up to the first that does not pass, it among them: m of them from k on
+unfoldable pub readTo : (ℕ → Bool) → ℕ → ℕ → ℕ
+readTo passes k zero = 0
+readTo passes k (suc m) = 1 + cond (passes k) (readTo passes (suc k) m) 0
+
 module _ (kinds : List Dimension) where
   -- the range of dimension i in the bytes of a box
   abbrev pub sideAt : List ℕ → ℕ → Ends
@@ -59,3 +64,7 @@ module _ (kinds : List Dimension) where
   -- the box meets the query in each of m dimensions
   unfoldable pub boxMeets : ℕ → List ℕ → List Side → Bool
   boxMeets m bytes query = all (λ i. meets (sideAt bytes i) (endsOf (rangeIn query i))) 0 m
+
+  -- How many of m dimensions a box test reads that leaves at the first miss. A stored range with NaN misses.
+  unfoldable pub boxRead : ℕ → List ℕ → List Side → ℕ
+  boxRead m bytes query = readTo (λ i. meets (sideAt bytes i) (endsOf (rangeIn query i))) 0 m

@@ -13,7 +13,7 @@ ghost use Rattle.description.specs.Description.{sidesOf, sideStart};
 ghost use Rattle.ranges.specs.Ranges.{kindOf, endsOf, verdict, inside};
 ghost use Rattle.boxes.specs.Boxes.{noBox, rangeIn, all, boxOf, rangesRefusal};
 ghost use Rattle.boxes.specs.Windows.{sideRefusal, windowRefusal};
-ghost use Rattle.boxes.specs.Code.Carried.{datatypes, endsIn, windowEnds, Fitting};
+ghost use Rattle.boxes.specs.Code.Carried.{endsIn, windowEnds, Fitting};
 ghost use Rattle.boxes.specs.Code.Row.{isSound, soundInside, rowRefusal};
 
 // An MBR is an array of four sides, of which the first D count.
@@ -210,26 +210,6 @@ pub fn window_ends(sides: [Side; 4], dimensions: u64) -> [u64; 8]
         i += 1;
     }
     ends
-}
-
-// The Datatype numbers of a box's kinds, carried.
-pub fn datatypes(kinds: [Dimension; 4]) -> [u64; 4]
-    ensures { λ r. ⌜ r ≡ datatypes kinds ⌝ }
-{
-    let a = kinds[0];
-    let b = kinds[1];
-    let c = kinds[2];
-    let d = kinds[3];
-    let first = a.kind;
-    let second = b.kind;
-    let third = c.kind;
-    let fourth = d.kind;
-    [
-        first.datatype(),
-        second.datatype(),
-        third.datatype(),
-        fourth.datatype(),
-    ]
 }
 
 // 19 for the number of dimensions; then per dimension 19, 8, 9, placed at the dimension.

@@ -75,6 +75,7 @@ fn answer(case: &[u8], a: &[u8], b: &[u8]) {
         7 => opened_case(case, a, b),
         8 => var_offsets_case(case, a),
         9 => batch_case(case, a, b),
+        10 => box_test_case(case, a, b),
         _ => (),
     }
     io::write_all(STDOUT_FILENO, b"\n");
@@ -319,6 +320,15 @@ fn all_places(out: &[u32]) {
         number(wide(out[i]));
         i += 1;
     }
+}
+
+// One box and a window.
+fn box_test_case(case: &[u8], bytes: &[u8], asked: &[u8]) {
+    let r = query::box_test(description(case), bytes, window(asked));
+    number(r.number);
+    number(r.place);
+    number(r.tested.meets as u64);
+    number(r.tested.read as u64);
 }
 
 // An opened tree, asked once. The second string is the window, of 104 bytes, and then the body.

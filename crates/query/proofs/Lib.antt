@@ -4,3 +4,4 @@ pub mod Rules
 mod Rows
 mod Root
 mod Window
+pub mod OneBox

@@ -20,7 +20,7 @@ use Rattle.description.specs.Description.{sidesOf, boxBytes}
 use Rattle.description.proofs.Limits.{Kept, within, kept}
 use Rattle.boxes.specs.declared.Window.{Window}
 use Rattle.boxes.specs.Windows.{windowRefusal}
-use Rattle.boxes.specs.Code.Carried.{datatypes, windowEnds}
+use Rattle.boxes.specs.Code.Carried.{windowEnds}
 use Rattle.boxes.proofs.Boxes.{box-meets-around}
 use Rattle.tree.specs.Shape.{boxes, height, levels, bodyBytes, shapeOf}
 use Rattle.tree.specs.Walk.{Contained}
@@ -69,7 +69,7 @@ passed-asked d n w h =
 -- what does not change in the walk, as the code makes it
 abbrev pub groundOf : Description → ℕ → List ℕ → Window → Ground
 groundOf d n body w =
-    ground body (shapeOf (fanoutOf body) n (boxBytes d) .table) (fanoutOf body) (boxBytes d) (sidesOf (d .dimensions)) (datatypes (d .kinds))
+    ground body (shapeOf (fanoutOf body) n (boxBytes d) .table) (fanoutOf body) (boxBytes d) (sidesOf (d .dimensions)) (d .kinds)
     (windowEnds (w .sides) (sidesOf (d .dimensions)))
 
 module _ (d : Description) (n : ℕ) (body : List ℕ) (w : Window) where
@@ -115,10 +115,12 @@ module _ (d : Description) (n : ℕ) (body : List ℕ) (w : Window) where
 
     module _ (fit : Fit d w (p .windowed)) where
       pub grounded : Grounded (groundOf d n body w)
+      unfolding boxBytes
       grounded = record {
         sizes = rw tiles-in (p .sizes);
         wide = p .described .some-bytes;
         narrow = p .described .most-bytes;
+        sides = refl;
         whole = rw tiles-in (p .whole);
         tabled = rw tiles-in;
         window = carries d w (p .windowed) fit;

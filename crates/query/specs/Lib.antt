@@ -1,3 +1,4 @@
 -- The definitions that this crate's contracts, and every crate above, cite.
 pub mod Query
+pub mod BoxTest
 pub mod Code

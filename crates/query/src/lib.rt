@@ -1,7 +1,8 @@
-// The window query on plain bytes: which tiles does a window touch?
+// The window query on plain bytes: which tiles does a window touch? And its test of one box.
 use answers::Refusal;
 use boxes::Window;
 use description::Description;
+use description::Dimension;
 use description::Kind;
 use ranges::Range;
 ghost use mathlib.Core.Path.{_≡_};
@@ -9,17 +10,33 @@ ghost use mathlib.Core.Bool.{false};
 ghost use Prim.Native.Nat.{_+_, _%_, _^_, _≤_, _<_};
 ghost use lib.ListN.{length, take, drop};
 ghost use Rattle.answers.specs.Refusals.{refusal};
-ghost use Rattle.description.specs.Kinds.{isNan};
-ghost use Rattle.ranges.specs.Ranges.{fitted, rangeOf};
+ghost use Rattle.description.specs.Kinds.{rangeBytes, isNan};
+ghost use Rattle.description.specs.Description.{sideStart};
+ghost use Rattle.ranges.specs.Ranges.{endsAt, fitted, rangeOf, rangeAt, hasNan, meets};
+ghost use Rattle.boxes.specs.Code.Carried.{carriedSide};
 ghost use Rattle.rtree.specs.Opening.{Accepted};
 ghost use Rattle.query.specs.Query.{askedRefusal, refusedAnswer, queryAnswer, queryBuffer, flatCountOf, Lists, Bounded};
-ghost use Rattle.query.specs.Code.Walking.{ground, state, meetsCarried, Carries, visited, childrenWalked, Box, ChildRow};
+ghost use Rattle.query.specs.BoxTest.{boxTestRefusal, boxTestAnswer, ReadUp};
+ghost use Rattle.query.specs.Code.Walking.{ground, state, meetsCarried, readCarried, Carries};
+ghost use Rattle.query.specs.Code.Walking.{visited, childrenWalked, Box, ChildRow};
 
 pub struct Answer {
     pub number: u64,
     pub place: u64,
     pub found: u64,
     pub looked: u64,
+}
+
+// What a box test says: whether the box meets the window, and how many dimensions were read for that.
+pub struct Tested {
+    pub meets: bool,
+    pub read: usize,
+}
+
+pub struct BoxTest {
+    pub number: u64,
+    pub place: u64,
+    pub tested: Tested,
 }
 
 // What a walk hands on: how many tiles it found, and how many boxes it looked at.
@@ -29,7 +46,7 @@ struct Walk {
 }
 
 struct Looked {
-    meets: bool,
+    tested: Tested,
     count: usize,
 }
 
@@ -62,8 +79,7 @@ pub fn query(
     let shape = shaped.shape;
     let table = shape.table;
     let dimensions = description::sides_of(description.dimensions);
-    let described = description.kinds;
-    let kinds = boxes::datatypes(described);
+    let kinds = description.kinds;
     let sides = window.sides;
     let ends = boxes::window_ends(sides, description.dimensions);
     // The root's row is the row of a box above it.
@@ -73,7 +89,7 @@ pub fn query(
         shaped.fanout,
         box_bytes,
         dimensions,
-        &kinds,
+        kinds,
         &ends,
         shape.levels - 1,
         0,
@@ -86,6 +102,46 @@ pub fn query(
         found: walk.found as u64,
         looked: walk.count as u64,
     }
+}
+
+// The test of one box by itself, with its checks.
+pub fn box_test(description: Description, bytes: &[u8], window: Window) -> BoxTest
+    ensures answer { λ r. ⌜ r ≡ boxTestAnswer description (now (bytes .entry)) window ⌝ }
+    ensures read { λ r. ⌜ (r .number ≡ 0 → ReadUp description (now (bytes .entry)) window (r .tested)) ⌝ }
+{
+    let told = check_box_test(description, bytes, window);
+    if told.number != 0 {
+        return BoxTest {
+            number: told.number,
+            place: told.place,
+            tested: Tested {
+                meets: false,
+                read: 0,
+            },
+        };
+    }
+    let dimensions = description::sides_of(description.dimensions);
+    let kinds = description.kinds;
+    let sides = window.sides;
+    let ends = boxes::window_ends(sides, description.dimensions);
+    let tested = test_box(bytes, dimensions, kinds, &ends);
+    BoxTest {
+        number: 0,
+        place: 0,
+        tested: tested,
+    }
+}
+
+// 1, the window, the bytes.
+fn check_box_test(description: Description, bytes: &[u8], window: Window) -> Refusal
+    ensures { λ r. ⌜ r ≡ boxTestRefusal description (now (bytes .entry)) window ⌝ }
+{
+    let len = bytes.len();
+    let other = len != description.box_bytes();
+    description
+        .check()
+        .or(boxes::check_window(description, window))
+        .or(Refusal::when(other, Refusal::BYTES, len as u64))
 }
 
 fn refused(number: u64, place: u64) -> Answer
@@ -118,7 +174,7 @@ fn visit(
     fanout: usize,
     box_bytes: usize,
     dimensions: usize,
-    kinds: &[u64; 4],
+    kinds: [Dimension; 4],
     ends: &[u64; 8],
     distance: usize,
     k: usize,
@@ -126,15 +182,15 @@ fn visit(
     out: &mut [u32],
     walk: Walk,
 ) -> Walk
-    requires { ⌜ Box (ground (now body) (now table) fanout «box_bytes» dimensions (now kinds) (now ends)) distance k
+    requires { ⌜ Box (ground (now body) (now table) fanout «box_bytes» dimensions kinds (now ends)) distance k
         place (state walk (now out)) ⌝ }
     ensures { λ r. ⌜ state r (now (out .exit)) ≡ visited (ground (now (body .entry)) (now (table .entry)) fanout
-        «box_bytes» dimensions (now (kinds .entry)) (now (ends .entry))) distance k (state walk (now (out .entry))) ⌝ }
+        «box_bytes» dimensions kinds (now (ends .entry))) distance k (state walk (now (out .entry))) ⌝ }
 {
     let seen = look_at(body, place, box_bytes, dimensions, kinds, ends, walk.count);
     let count = seen.count;
     let found = walk.found;
-    if seen.meets {
+    if seen.tested.meets {
         if distance == 0 {
             answers::keep(out, found, k as u32);
             let more = found + 1;
@@ -176,17 +232,17 @@ fn walk_row(
     fanout: usize,
     box_bytes: usize,
     dimensions: usize,
-    kinds: &[u64; 4],
+    kinds: [Dimension; 4],
     ends: &[u64; 8],
     distance: usize,
     parent: usize,
     out: &mut [u32],
     walk: Walk,
 ) -> Walk
-    requires { ⌜ ChildRow (ground (now body) (now table) fanout «box_bytes» dimensions (now kinds) (now ends)) distance
+    requires { ⌜ ChildRow (ground (now body) (now table) fanout «box_bytes» dimensions kinds (now ends)) distance
         parent (state walk (now out)) ⌝ }
     ensures { λ r. ⌜ state r (now (out .exit)) ≡ childrenWalked (ground (now (body .entry)) (now (table .entry)) fanout
-        «box_bytes» dimensions (now (kinds .entry)) (now (ends .entry))) distance parent (state walk (now (out .entry)))
+        «box_bytes» dimensions kinds (now (ends .entry))) distance parent (state walk (now (out .entry)))
         ⌝ }
 {
     let first = parent * fanout;
@@ -221,45 +277,82 @@ fn look_at(
     place: usize,
     box_bytes: usize,
     dimensions: usize,
-    kinds: &[u64; 4],
+    kinds: [Dimension; 4],
     ends: &[u64; 8],
     count: usize,
 ) -> Looked
     requires { ⌜ (place + «box_bytes» ≤ length (now body)) × (count + 1 < 2 ^ 64) ⌝ }
-    requires { ⌜ Carries (now kinds) (now ends) dimensions ⌝ }
-    ensures { λ r. ⌜ (r .meets ≡ meetsCarried (now (kinds .entry)) (now (ends .entry)) dimensions (take «box_bytes»
+    requires { ⌜ («box_bytes» ≡ sideStart kinds dimensions) × Carries kinds (now ends) dimensions ⌝ }
+    ensures look { λ r. ⌜ (r .tested .meets ≡ meetsCarried kinds (now (ends .entry)) dimensions (take «box_bytes»
         (drop place (now (body .entry))))) × (r .count ≡ count + 1) ⌝ }
+    ensures read { λ r. ⌜ r .tested .read ≡ readCarried kinds (now (ends .entry)) dimensions (take «box_bytes»
+        (drop place (now (body .entry)))) ⌝ }
 {
     let end = place + box_bytes;
-    let meets = box_meets(&body[place..end], dimensions, kinds, ends);
+    let tested = test_box(&body[place..end], dimensions, kinds, ends);
     Looked {
-        meets: meets,
+        tested: tested,
         count: count + 1,
     }
 }
 
-// Whether a box meets the window in each dimension: its range, read in the window's kind, and the window's are compared
-// by a match.
-fn box_meets(bytes: &[u8], dimensions: usize, kinds: &[u64; 4], ends: &[u64; 8]) -> bool
-    requires { ⌜ Carries (now kinds) (now ends) dimensions ⌝ }
-    ensures { λ r. ⌜ r ≡ meetsCarried (now (kinds .entry)) (now (ends .entry)) dimensions (now (bytes .entry)) ⌝ }
+// Whether a box meets the window in each dimension. The number of dimensions read starts at 0 and goes through each
+// dimension's test, of which the first that misses is the last.
+fn test_box(bytes: &[u8], dimensions: usize, kinds: [Dimension; 4], ends: &[u64; 8]) -> Tested
+    requires { ⌜ (sideStart kinds dimensions ≤ length (now bytes)) × Carries kinds (now ends) dimensions ⌝ }
+    ensures { λ r. ⌜ (r .meets ≡ meetsCarried kinds (now (ends .entry)) dimensions (now (bytes .entry))) × (r .read ≡
+        readCarried kinds (now (ends .entry)) dimensions (now (bytes .entry))) ⌝ }
 {
+    let mut tested = Tested {
+        meets: true,
+        read: 0, // counted as looks are
+    };
     let mut at: usize = 0;
     let mut i: usize = 0;
     while i < 4 {
         if dimensions <= i {
-            return true;
+            return tested;
         }
-        let kind = Kind::of(kinds[i]);
-        let range = Range::read(bytes, at, kind);
-        let asked = window_range(kind, ends[2 * i], ends[2 * i + 1]);
-        if !range.meets(asked) {
-            return false;
+        let d = kinds[i];
+        let kind = d.kind;
+        tested = test_side(bytes, at, kind, ends, i, tested.read);
+        if !tested.meets {
+            return tested;
         }
         at += kind.range_bytes();
         i += 1;
     }
-    true
+    tested
+}
+
+// Reads and tests dimension i of a box, and gives the number of dimensions read back one higher: the range, read in the
+// window's kind, and the window's are compared by a match.
+fn test_side(bytes: &[u8], at: usize, kind: Kind, ends: &[u64; 8], i: usize, read: usize) -> Tested
+    requires { ⌜ (at + rangeBytes kind ≤ length (now bytes)) × (i < 4) × (read + 1 < 2 ^ 64) ⌝ }
+    requires { ⌜ hasNan (carriedSide kind (now ends) i) ≡ false ⌝ }
+    ensures { λ r. ⌜ (r .meets ≡ meets (endsAt kind (now (bytes .entry)) at) (carriedSide kind (now (ends .entry)) i))
+        × (r .read ≡ read + 1) ⌝ }
+{
+    let range = read_side(bytes, at, kind);
+    let asked = window_range(kind, ends[2 * i], ends[2 * i + 1]);
+    Tested {
+        meets: range.meets(asked),
+        read: read + 1,
+    }
+}
+
+// The range of a kind at a place where it is wholly there. It is read from a part of known length, so that the test of
+// that length is none in the compiled code.
+fn read_side(bytes: &[u8], at: usize, kind: Kind) -> Range
+    requires { ⌜ at + rangeBytes kind ≤ length (now bytes) ⌝ }
+    ensures { λ r. ⌜ r ≡ rangeAt kind (now (bytes .entry)) at ⌝ }
+{
+    match kind {
+        Kind::Int32 => Range::read(&bytes[at..at + 8], 0, Kind::Int32),
+        Kind::Int64 => Range::read(&bytes[at..at + 16], 0, Kind::Int64),
+        Kind::Float32 => Range::read(&bytes[at..at + 8], 0, Kind::Float32),
+        Kind::Float64 => Range::read(&bytes[at..at + 16], 0, Kind::Float64),
+    }
 }
 
 // The range of a window whose ends have these patterns. They passed the window's check, so no float of them is a NaN,

@@ -2,10 +2,10 @@
 -- are apart. What meets a query makes whatever is around it meet, since the order of a kind's patterns is transitive.
 -- Assumes nothing.
 use mathlib.Core.Path.{_≡_, refl, sym, ap, _∙_, subst}
-use mathlib.Core.Bool.{Bool, true, false, not, _&&_}
+use mathlib.Core.Bool.{Bool, true, false, not, _&&_, _||_}
 use mathlib.Core.List.{List}
 use Prim.Native.Nat.{ℕ, _<_, _^_}
-use lib.Dec.{T}
+use lib.Dec.{T, leb}
 use lib.IntN.{ℤ}
 use lib.Signed.{mag}
 use types.Run.{OneOf, miss}
@@ -15,13 +15,13 @@ use mir.Val.{hasKey, hbits, toZ, ofZ}
 use mir.ValLaws.{toZ-ofZ}
 use Rattle.description.specs.declared.Kind.{Kind}
 use Rattle.description.specs.declared.Kind.the-variants.{Int32, Int64, Float32, Float64}
-use Rattle.description.specs.Kinds.{sameKind, atMost}
+use Rattle.description.specs.Kinds.{sameKind, key, isNan, atMost}
 use Rattle.description.proofs.Datatypes.{same-kind, one-kind}
 use Rattle.description.proofs.Tests.{both}
 use Rattle.description.proofs.Patterns.{at-most-trans}
 use Rattle.ranges.specs.declared.Range.{Range}
 use Rattle.ranges.specs.declared.Range.the-variants.{I32, I64, F32, F64}
-use Rattle.ranges.specs.Ranges.{Ends, ends, kindOf, endsOf, inside, meets}
+use Rattle.ranges.specs.Ranges.{Ends, ends, kindOf, endsOf, hasNan, inside, meets}
 use Rattle.ranges.proofs.Range.{the-type}
 
 -- a comparison: of the kinds, and then of the ends
@@ -110,3 +110,20 @@ meets-around e o q p m =
     let j = both (atMost k (e .low) (q .high)) (atMost k (q .low) (e .high)) (t .1) in
     compared-when touching o q (sym (s .0) ∙ t .0)
     (rw (← (s .0), at-most-trans k (o .low) (e .low) (q .high) (i .0) (j .0), at-most-trans k (q .low) (e .high) (o .high) (j .1) (i .1)))
+
+-- a range with NaN meets nothing
+pub nan-misses : (e q : Ends) → hasNan e ≡ true → meets e q ≡ false
+unfolding hasNan meets atMost
+nan-misses e q h =
+    let k = e .kind in
+    go (isNan k (e .low)) (isNan k (e .high)) (sameKind k (q .kind)) (not (isNan k (q .high)) && leb (key k (e .low)) (key k (q .high)))
+    (not (isNan k (q .low))) (leb (key k (q .low)) (key k (e .high))) h
+  where
+    go : (a b s x y z : Bool) → (a || b) ≡ true → (s && ((not a && x) && (y && (not b && z)))) ≡ false
+    go true b true x y z h = refl
+    go true b false x y z h = refl
+    go false true true true true z h = refl
+    go false true true true false z h = refl
+    go false true true false y z h = refl
+    go false true false x y z h = refl
+    go false false s x y z h = cc

@@ -5,23 +5,26 @@ use mathlib.Core.Path.{_≡_, refl, ap, _∙_}
 use mathlib.Core.Logic.{_⊎_, inl, inr}
 use mathlib.Core.Bool.{Bool, true, false}
 use mathlib.Core.List.{List, [], _∷_}
-use Prim.Native.Nat.{ℕ, _<_, _^_}
-use native.Mathlib.Nat.{mod-eq-of-lt}
+use Prim.Native.Nat.{ℕ, _+_, _≤_, _<_, _^_}
+use native.Mathlib.Nat.{mod-eq-of-lt, add-zero, zero-add}
+use native.Mathlib.Omega.{arith}
 use types.Run.{OneOf, miss}
 use denote.Enum.Declared.{tagOf}
-use lib.ListN.{getD}
+use lib.ListN.{length, getD, take, drop, length-take, length-drop}
 use lib.Ieee.{Format, binary32, binary64, toBits, ofBits, nanBits}
 use lib.IntN.{ℤ}
 use lib.Signed.{mag}
 use mir.Syntax.{Width, w32, w64}
 use mir.Val.{Fits, widthOf, hbits, toZ, ofZ}
 use mir.ValLaws.{toZ-ofZ, ofZ-toZ}
-use Rattle.order.proofs.Pairs.{first-lt, second-lt}
+use Rattle.order.specs.Little.{little}
+use Rattle.order.proofs.Little.{little-part}
+use Rattle.order.proofs.Pairs.{there, first-lt, second-lt}
 use Rattle.order.proofs.Read.{nan-read, bits-read}
 use Rattle.description.proofs.Kind.{the-type}
 use Rattle.description.specs.declared.Kind.{Kind}
 use Rattle.description.specs.declared.Kind.the-variants.{Int32, Int64, Float32, Float64}
-use Rattle.description.specs.Kinds.{endBytes, isNan}
+use Rattle.description.specs.Kinds.{rangeBytes, endBytes, isNan}
 use Rattle.description.proofs.Datatypes.{when-same}
 use Rattle.description.proofs.Patterns.{Alike, alike-nan, alike-left, alike-right}
 use Rattle.ranges.specs.declared.Range.{Range}
@@ -142,3 +145,26 @@ module _ (s : List ℕ) (byte : (i : ℕ) → getD s i 0 < 256) (k : Kind) (at :
   pub read-meets-left : (q : Ends) → meets (endsOf (rangeAt k s at)) q ≡ meets (endsAt k s at) q
   unfolding endsAt
   read-meets-left = of-meets-left k (endsAt k s at .low) (endsAt k s at .high) (ends-at-fit .0) (ends-at-fit .1)
+
+-- ---- a range that is read from the part that has it
+two-ends : (k : Kind) → endBytes k + endBytes k ≡ rangeBytes k
+two-ends Int32 = refl
+two-ends Int64 = refl
+two-ends Float32 = refl
+two-ends Float64 = refl
+
+module _ (k : Kind) (s : List ℕ) (at w : ℕ) (size : w ≡ rangeBytes k) (fits : at + w ≤ length s) where
+  part-ends : endsAt k (take w (drop at s)) 0 ≡ endsAt k s at
+  unfolding endsAt
+  part-ends =
+      let m = endBytes k in
+      let two = two-ends k in
+      let long : length (take w (drop at s)) ≡ w = simp (length-take, length-drop) (omega arith) in
+      let whole = there s at m (omega arith) refl refl in
+      let part = there (take w (drop at s)) 0 m (omega arith) refl refl in
+      let low : little (take w (drop at s)) 0 m ≡ little s at m = little-part s at w 0 m (omega arith) ∙ rw add-zero in
+      let high : little (take w (drop at s)) (0 + m) m ≡ little s (at + m) m = little-part s at w (0 + m) m (omega arith) ∙ rw zero-add in
+      rw (← (part .0), ← (part .1), low, high, ← (whole .0), ← (whole .1))
+
+  pub part-range : rangeAt k (take w (drop at s)) 0 ≡ rangeAt k s at
+  part-range = rw part-ends

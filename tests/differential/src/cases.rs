@@ -8,6 +8,7 @@ pub enum Case {
     Open { d: Description, file_size: u64, footer: Vec<u8>, tree: Vec<u8> },
     Query { d: Description, tiles: u64, tree: Vec<u8>, kinds: Vec<u8>, ends: Vec<u8>, room: usize },
     Batch { d: Description, tiles: u64, tree: Vec<u8>, kinds: Vec<u8>, windows: Vec<u8>, places: usize, room: usize },
+    BoxTest { d: Description, stored: Vec<u8>, kinds: Vec<u8>, ends: Vec<u8> },
     Offsets { var: bool, tiles: u64, size: u64, list: Vec<u8>, tile: u64 },
     Sizes { tiles: u64, list: Vec<u8> },
     Report { description: Vec<u8>, footer: Vec<u8>, tree: Vec<u8>, offsets: Vec<u8>, room: usize },
@@ -430,6 +431,26 @@ fn report(c: &mut Chance) -> Case {
     Case::Report { description, footer: f.data, tree: t.body, offsets, room }
 }
 
+/// A box around a window that meets it or, in some dimensions, misses it below, above or by a NaN.
+fn box_test(c: &mut Chance) -> Case {
+    let d = description(c);
+    let (kinds, ends) = window(c, &d);
+    let mut stored = vec![];
+    for kind in plain(&d).kinds {
+        let low = c.below(120) as i64 - 40;
+        let (low, high) = if c.one_in(3) { (low, low + c.below(30) as i64) } else { (-50 - c.below(9) as i64, 190) };
+        let nans = nans(kind);
+        for x in [low, high] {
+            let bytes = if !nans.is_empty() && c.one_in(20) { nans[c.below(nans.len() as u64) as usize].clone() } else { end(c, kind, x) };
+            stored.extend(bytes);
+        }
+    }
+    if c.one_in(20) {
+        damage(c, &mut stored);
+    }
+    Case::BoxTest { d, stored, kinds, ends }
+}
+
 /// A case's byte strings, to be damaged one byte or one length at a time.
 pub fn parts(case: &mut Case) -> Vec<&mut Vec<u8>> {
     match case {
@@ -437,15 +458,19 @@ pub fn parts(case: &mut Case) -> Vec<&mut Vec<u8>> {
         Case::Open { footer, tree, .. } => vec![footer, tree],
         Case::Query { tree, ends, .. } => vec![tree, ends],
         Case::Batch { tree, kinds, windows, .. } => vec![tree, kinds, windows],
+        Case::BoxTest { stored, ends, .. } => vec![stored, ends],
         Case::Offsets { list, .. } | Case::Sizes { list, .. } => vec![list],
         Case::Report { description, footer, tree, offsets, .. } => vec![description, footer, tree, offsets],
     }
 }
 
 pub fn make(c: &mut Chance) -> Case {
-    let what = c.below(12);
+    let what = c.below(13);
     if what == 10 {
         return report(c);
+    }
+    if what == 12 {
+        return box_test(c);
     }
     if what >= 8 {
         let (tiles, size, list) = if what == 11 { var_list(c) } else { list(c, what == 9) };
@@ -513,6 +538,8 @@ pub enum Slip {
     NoEmptyTile,
     AnewAtTheStart,
     RefusedTakesAPlace,
+    AllRead,
+    MissNotRead,
 }
 
 /// What a library with this slip would answer, where the slip has a say in the case.
@@ -554,6 +581,14 @@ pub fn wrong(case: &Case, slip: Slip) -> Option<(Vec<u64>, Vec<u32>)> {
                 free = if matches!(slip, Slip::AnewAtTheStart) { 0 } else { free + fits };
             }
             Some((answer, out))
+        }
+        (Case::BoxTest { d, stored, kinds, ends }, Slip::AllRead) => {
+            let (meets, _) = rules::box_test(d, stored, kinds, ends).ok()?;
+            Some((vec![0, 0, u64::from(meets), d.kinds.len() as u64], vec![]))
+        }
+        (Case::BoxTest { d, stored, kinds, ends }, Slip::MissNotRead) => {
+            let (meets, read) = rules::box_test(d, stored, kinds, ends).ok()?;
+            Some((vec![0, 0, u64::from(meets), if meets { read } else { read - 1 }], vec![]))
         }
         (Case::Footer { d, file_size, footer, tile }, Slip::LastFull) => {
             let f = rules::footer(d, *file_size, footer).ok()?;

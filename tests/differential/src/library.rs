@@ -20,6 +20,10 @@ extern "C" {
         k: *const u8, kl: usize, fields: u64, capacity: u64, tiles: u64, t: *const u8, tl: usize, wk: *const u8, wkl: usize, w: *const u8, wl: usize,
         records: *mut u64, rl: usize, out: *mut u32, ol: usize, answer: *mut u64,
     );
+    fn tussockbell_box_test(
+        k: *const u8, kl: usize, fields: u64, capacity: u64, b: *const u8, bl: usize, wk: *const u8, wkl: usize, we: *const u8, wel: usize,
+        answer: *mut u64,
+    );
     fn tussockbell_offsets(tiles: u64, size: u64, l: *const u8, ll: usize, answer: *mut u64);
     fn tussockbell_extent(tiles: u64, size: u64, l: *const u8, ll: usize, tile: u64, answer: *mut u64);
     fn tussockbell_var_offsets(tiles: u64, size: u64, l: *const u8, ll: usize, answer: *mut u64);
@@ -100,6 +104,17 @@ pub fn ask(case: &Case, mut space: Option<&mut Space>) -> (Vec<u64>, Vec<u32>) {
                 answer.extend(std::slice::from_raw_parts(r, *places));
                 (answer, std::slice::from_raw_parts(out, *room).to_vec())
             }
+        }
+        Case::BoxTest { d, stored, kinds, ends } => {
+            let (k, b) = (lend(&d.kinds, &mut space), lend(stored, &mut space));
+            let (wk, we) = (lend(kinds, &mut space), lend(ends, &mut space));
+            let mut answer = vec![u64::MAX; 4];
+            unsafe {
+                tussockbell_box_test(
+                    k, d.kinds.len(), d.fields, d.capacity, b, stored.len(), wk, kinds.len(), we, ends.len(), answer.as_mut_ptr(),
+                )
+            };
+            (answer, vec![])
         }
         Case::Offsets { var, tiles, size, list, tile } => {
             let l = lend(list, &mut space);

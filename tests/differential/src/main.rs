@@ -31,7 +31,9 @@ fn slips(seed: u64) {
     let no_empty_tile = |case: &Case| cases::wrong(case, cases::Slip::NoEmptyTile);
     let anew = |case: &Case| cases::wrong(case, cases::Slip::AnewAtTheStart);
     let refused_takes = |case: &Case| cases::wrong(case, cases::Slip::RefusedTakesAPlace);
-    let all: [(&str, &dyn Fn(&Case) -> Option<(Vec<u64>, Vec<u32>)>); 9] = [
+    let all_read = |case: &Case| cases::wrong(case, cases::Slip::AllRead);
+    let miss_not_read = |case: &Case| cases::wrong(case, cases::Slip::MissNotRead);
+    let all: [(&str, &dyn Fn(&Case) -> Option<(Vec<u64>, Vec<u32>)>); 11] = [
         ("strict comparison", &strict),
         ("int32 compared as unsigned", &unsigned),
         ("full rows only", &full_rows),
@@ -41,6 +43,8 @@ fn slips(seed: u64) {
         ("var offsets as those of tiles of fixed size", &no_empty_tile),
         ("each window of a batch from the buffer's start", &anew),
         ("a refused window that takes a place", &refused_takes),
+        ("a box test that reads every dimension", &all_read),
+        ("the dimension that misses not told as read", &miss_not_read),
     ];
     for (name, wrong) in all {
         let caught = (0..200_000).any(|i| {

@@ -58,6 +58,13 @@ pub fn right(case: &Case) -> (Vec<u64>, Vec<u32>) {
             }
             (answer, out)
         }
+        Case::BoxTest { d, stored, kinds, ends } => (
+            match rules::box_test(d, stored, kinds, ends) {
+                Ok((meets, read)) => vec![0, 0, u64::from(meets), read],
+                Err(r) => refused(&r, 2),
+            },
+            vec![],
+        ),
         Case::Offsets { var, tiles, size, list, tile } => {
             let checked = if *var { rules::var_offsets } else { rules::offsets }(*tiles, *size, list);
             let mut answer = match &checked {

@@ -348,11 +348,8 @@ pub fn window_of(kinds: &[u8], ends: &[u8]) -> Vec<Range> {
     sides
 }
 
-pub fn query(d: &Description, n: u64, body: &[u8], kinds: &[u8], ends: &[u8]) -> Answer<(Vec<u32>, u64)> {
-    d.check()?;
-    if !limits::TILES.contains(&n) {
-        return refuse(refusal::TILES, 0);
-    }
+/// The window, if its kinds and ends are in order.
+fn checked_window(d: &Description, kinds: &[u8], ends: &[u8]) -> Answer<Vec<Range>> {
     if kinds.len() != d.kinds.len() {
         return refuse(refusal::WINDOW, 0);
     }
@@ -368,6 +365,30 @@ pub fn query(d: &Description, n: u64, body: &[u8], kinds: &[u8], ends: &[u8]) ->
             return refuse(refusal::REVERSED, i);
         }
     }
+    Ok(window)
+}
+
+/// Whether one box meets the window, and how many of its dimensions are read: up to the first miss, or all of them.
+pub fn box_test(d: &Description, data: &[u8], kinds: &[u8], ends: &[u8]) -> Answer<(bool, u64)> {
+    d.check()?;
+    let window = checked_window(d, kinds, ends)?;
+    if data.len() != d.box_bytes() {
+        return refuse(refusal::BYTES, data.len());
+    }
+    let stored = stored_box(&d.kinds, data, 0);
+    let hits = |i: usize| meets(&stored[i..i + 1], &window[i..i + 1]);
+    Ok(match (0..stored.len()).find(|i| !hits(*i)) {
+        Some(first) => (false, first as u64 + 1),
+        None => (true, stored.len() as u64),
+    })
+}
+
+pub fn query(d: &Description, n: u64, body: &[u8], kinds: &[u8], ends: &[u8]) -> Answer<(Vec<u32>, u64)> {
+    d.check()?;
+    if !limits::TILES.contains(&n) {
+        return refuse(refusal::TILES, 0);
+    }
+    let window = checked_window(d, kinds, ends)?;
     let s = shape(d, n, body)?;
     let (mut found, mut looked) = (vec![], 0);
     look(d, &s, body, &window, 0, 0, &mut found, &mut looked);

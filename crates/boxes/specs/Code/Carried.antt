@@ -1,6 +1,6 @@
--- A box whose ranges are needed again and again is carried as plain numbers: its kinds' Datatype numbers, and the
--- patterns of its ends, the minimum of dimension i at twice its place and the maximum after it. Nothing here is
--- promised to a user of the library. Assumes nothing.
+-- A box whose ranges are needed again and again is carried as its kinds and plain numbers: the patterns of its ends, the
+-- minimum of dimension i at twice its place and the maximum after it. Nothing here is promised to a user of the
+-- library. Assumes nothing.
 use Prim.Native.Nat.{ℕ, _+_, _*_, _^_, _<_}
 use mathlib.Core.Bool.{cond}
 use mathlib.Core.List.{List, [], _∷_}
@@ -9,8 +9,7 @@ use lib.ListN.{getD}
 use Rattle.answers.specs.Runs.{join}
 use Rattle.description.specs.declared.Kind.{Kind}
 use Rattle.description.specs.declared.Dimension.{Dimension}
-use Rattle.description.specs.Kinds.{endBytes, datatype}
-use Rattle.description.specs.Description.{kindAt}
+use Rattle.description.specs.Kinds.{endBytes}
 use Rattle.ranges.specs.Ranges.{Ends, endsOf, fitted}
 use Rattle.boxes.specs.declared.Side.{Side}
 use Rattle.boxes.specs.Boxes.{rangeIn, sideAt}
@@ -18,10 +17,6 @@ use Rattle.boxes.specs.Boxes.{rangeIn, sideAt}
 -- the side of a kind whose ends are carried for dimension i, in the lowest bytes of their numbers
 abbrev pub carriedSide : Kind → List ℕ → ℕ → Ends
 carriedSide k ends i = record { kind = k; low = fitted k (getD ends (2 * i) 0); high = fitted k (getD ends (2 * i + 1) 0) }
-
--- the kinds
-unfoldable pub datatypes : List Dimension → List ℕ
-datatypes kinds = join (λ i. datatype (kindAt kinds i) ∷ []) 0 4
 
 -- the ends of m sides; 0 past them
 unfoldable pub carried : (ℕ → Ends) → ℕ → List ℕ

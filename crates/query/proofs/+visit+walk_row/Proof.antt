@@ -26,23 +26,23 @@ use Rattle.tree.proofs.row_length.Reads as row-length-reads
 use Rattle.query.proofs.+visit+walk_row.{statement}
 use Rattle.query.proofs.+visit+walk_row.Tie.{close}
 
-abbrev μ-visit : Measures 5 visit-kinds.ps ℕ
+abbrev μ-visit : Measures 4 visit-kinds.ps ℕ
 μ-visit κs a = a .1 .1 .1 .1 .1 .1 .1 .0 + a .1 .1 .1 .1 .1 .1 .1 .0
 
-abbrev μ-walk-row : Measures 5 walk-row-kinds.ps ℕ
+abbrev μ-walk-row : Measures 4 walk-row-kinds.ps ℕ
 μ-walk-row κs a = a .1 .1 .1 .1 .1 .1 .1 .0 + a .1 .1 .1 .1 .1 .1 .1 .0 + 1
 
-abbrev visit-at : ℕ → In 5 visit-kinds.ps
-visit-at t = and 5 visit-kinds.ps (is 5 visit-kinds.ps μ-visit t) visit.Pre
+abbrev visit-at : ℕ → In 4 visit-kinds.ps
+visit-at t = and 4 visit-kinds.ps (is 4 visit-kinds.ps μ-visit t) visit.Pre
 
-abbrev visit-below : ℕ → In 5 visit-kinds.ps
-visit-below t = and 5 visit-kinds.ps (falls 5 visit-kinds.ps _<_ μ-visit t) visit.Pre
+abbrev visit-below : ℕ → In 4 visit-kinds.ps
+visit-below t = and 4 visit-kinds.ps (falls 4 visit-kinds.ps _<_ μ-visit t) visit.Pre
 
-abbrev walk-row-at : ℕ → In 5 walk-row-kinds.ps
-walk-row-at t = and 5 walk-row-kinds.ps (is 5 walk-row-kinds.ps μ-walk-row t) walk-row.Pre
+abbrev walk-row-at : ℕ → In 4 walk-row-kinds.ps
+walk-row-at t = and 4 walk-row-kinds.ps (is 4 walk-row-kinds.ps μ-walk-row t) walk-row.Pre
 
-abbrev walk-row-below : ℕ → In 5 walk-row-kinds.ps
-walk-row-below t = and 5 walk-row-kinds.ps (falls 5 walk-row-kinds.ps _<_ μ-walk-row t) walk-row.Pre
+abbrev walk-row-below : ℕ → In 4 walk-row-kinds.ps
+walk-row-below t = and 4 walk-row-kinds.ps (falls 4 walk-row-kinds.ps _<_ μ-walk-row t) walk-row.Pre
 
 abbrev Inv-loop : walk-row-lts.InvT-loop
 Inv-loop body table fanout box-bytes dimensions kinds ends distance parent out₀ first last place₀ sofar₀ k₀ out place sofar k =
@@ -65,14 +65,14 @@ row-calls t = (row-length-reads.Asked, row-length-reads.Learnt, visit-below t, v
 -- what is known where a box meets
 met-at : (t : ℕ) (c : visit-lts.Then1 (calls t) (visit-at t) visit.Post)
     → (let x = c .before .before .before .before .args in
-    Met (ground (x .body .now) (x .table .now) (x .fanout) (x .box-bytes) (x .dimensions) (x .kinds .now) (x .ends .now)) (x .distance) (x .k)
+    Met (ground (x .body .now) (x .table .now) (x .fanout) (x .box-bytes) (x .dimensions) (x .kinds) (x .ends .now)) (x .distance) (x .k)
     (state (x .walk) (x .out .now)) (c .before .look-at .result .count))
-met-at t c = let seen = c .before .look-at .ensures in met (c .before .before .before .before .pre .1) (seen .1) (seen .0) (c .if1 .taken)
+met-at t c = let seen = c .before .look-at .ensures .0 in met (c .before .before .before .before .pre .1) (seen .1) (seen .0) (c .if1 .taken)
 
 -- the row's length, and where it ends
 ends-at : (t : ℕ) (c : walk-row-lts.After-row-length (row-calls t) (walk-row-at t) walk-row.Post Inv-loop μ-loop)
     → (let x = c .before .before .before .before .args in
-    let g = ground (x .body .now) (x .table .now) (x .fanout) (x .box-bytes) (x .dimensions) (x .kinds .now) (x .ends .now) in
+    let g = ground (x .body .now) (x .table .now) (x .fanout) (x .box-bytes) (x .dimensions) (x .kinds) (x .ends .now) in
     c .row-length .result ≡ children (x .fanout) (tilesIn g) (x .distance) (x .parent))
 ends-at t c = the-children _ (c .before .before .before .before .pre .1) (c .row-length .ensures)
 
@@ -81,7 +81,7 @@ pub +visit+walk-row-spec : {M : Type 1} → statement M
     close μ-visit μ-walk-row
     (λ t. visit-lts.spec (calls t) (visit-at t) visit.Post
     -- look-at-requires
-    (λ c κs. let box = c .before .before .pre .1 in ((box-fits box, count-fits box), box .row .on .window))
+    (λ c κs. let box = c .before .before .pre .1 in ((box-fits box, count-fits box), (box .row .on .sides, box .row .on .window)))
     -- a leaf: cast-keep, keep-requires, add-more
     (λ c. omega (arith, tile-fits (c .before .before .before .before .before .before .pre .1)))
     (λ c κs. search needs)
@@ -97,7 +97,7 @@ pub +visit+walk-row-spec : {M : Type 1} → statement M
     (λ c. found-one (met-at t (c .before .before .before .before .before)) (c .before .before .before .before .if2 .taken) (c .before .before .keep .ensures))
     (λ c. c .before .before .walk-row .kept .1 .1 .1 .1 .1 .1 .1 .1 .1 .0)
     (λ c. handed-over (met-at t (c .before .before .before .before .before)) (c .before .before .before .before .if2 .left) (c .before .before .walk-row .ensures))
-    (λ c. let seen = c .before .look-at .ensures in missed (c .before .before .before .before .pre .1) (seen .1) (seen .0) (c .if1 .left)))
+    (λ c. let seen = c .before .look-at .ensures .0 in missed (c .before .before .before .before .pre .1) (seen .1) (seen .0) (c .if1 .left)))
     (λ t. walk-row-lts.spec (row-calls t) (walk-row-at t) walk-row.Post Inv-loop μ-loop
     -- mul-first; the level's count in the table; row-length-requires; add-last
     (λ c. omega (arith, first-fits (c .before .before .args .parent) (c .before .before .pre .1)))

@@ -10,7 +10,7 @@ returns : tie.Need-returns
 returns c =
     let x = c .before .before .before .args in
     let size : x .place + x .box-bytes - x .place ≡ x .box-bytes = omega arith in
-    (c .box-meets .ensures ∙ rw size, refl)
+    ((c .test-box .ensures .0 ∙ rw size, refl), c .test-box .ensures .1 ∙ rw size)
 
 pub look-at-spec : {M : Type 1} → statement M
 look-at-spec =

@@ -40,21 +40,21 @@ all-clear c =
 
 -- what the walk goes by is the definition's
 same-ground : (c : tie.After-window-ends)
-    → (let d = c .before .before .before .before in
+    → (let d = c .before .before .before in
     let b = d .before .before .before in
     let k = b .before .before .before in
     let x = k .before .before .before .before .before .before .args in
     ground (x .body .now) (k .check-shape .result .shape .table) (k .check-shape .result .fanout) (b .box-bytes .result) (d .sides-of .result)
-    (c .before .before .datatypes .result) (c .window-ends .result)
+    (x .description .kinds) (c .window-ends .result)
     ≡ groundOf (x .description) (x .tiles) (x .body .now) (x .window))
 same-ground c =
-    let d = c .before .before .before .before in
+    let d = c .before .before .before in
     let b = d .before .before .before in
     let k = b .before .before .before in
-    rw (k .check-shape .ensures .shape, k .check-shape .ensures .fanout, b .box-bytes .ensures, d .sides-of .ensures, c .before .before .datatypes .ensures, c .window-ends .ensures .0)
+    rw (k .check-shape .ensures .shape, k .check-shape .ensures .fanout, b .box-bytes .ensures, d .sides-of .ensures, c .window-ends .ensures .0)
 
 fit : (c : tie.After-window-ends)
-    → (let e = c .before .before .before .before .before .before .before .before in
+    → (let e = c .before .before .before .before .before .before .before in
     let x = e .before .before .before .before .before .before .before .before .args in
     Fit (x .description) (x .window) (all-clear e .windowed))
 fit c = rw (c .window-ends .ensures .0) at (c .window-ends .ensures .1)
@@ -76,8 +76,8 @@ returns-2 c =
 -- the root's row
 walk-row-requires : tie.Need-walk-row-requires
 walk-row-requires c κs =
-    let w = c .before .before .before .before .before in
-    let e = w .before .before .before .before .before .before .before .before in
+    let w = c .before .before .before .before in
+    let e = w .before .before .before .before .before .before .before in
     let k = e .before .before in
     let s = k .before .before .before .before .before .before in
     let x = s .args in
@@ -88,8 +88,8 @@ walk-row-requires c κs =
 returns-3 : tie.Need-returns-3
 returns-3 c =
     let r = c .before .before in
-    let w = r .before .before .before .before .before .before in
-    let e = w .before .before .before .before .before .before .before .before in
+    let w = r .before .before .before .before .before in
+    let e = w .before .before .before .before .before .before .before in
     let k = e .before .before in
     let x = k .before .before .before .before .before .before .args in
     let p = all-clear e in
@@ -111,10 +111,9 @@ query-spec =
     (λ c κs. search needs)
     (λ c κs. search needs)
     (λ c κs. search needs)
-    (λ c κs. search needs)
     (λ c.
-    let w = c .before .before .before .before in
-    let e = w .before .before .before .before .before .before .before .before in
+    let w = c .before .before .before in
+    let e = w .before .before .before .before .before .before .before in
     let k = e .before .before in
     let x = k .before .before .before .before .before .before .args in
     some-level (x .description) (x .tiles) (x .body .now) (x .window) (all-clear e) (k .check-shape .ensures))

@@ -3,48 +3,50 @@
 use Prim.Native.Nat.{ℕ, _+_, _*_, _^_, _≤_, _<_}
 use mathlib.Core.Path.{_≡_}
 use mathlib.Core.Bool.{Bool, false}
-use mathlib.Core.List.{List, [], _∷_}
+use mathlib.Core.List.{List}
 use lib.ListN.{length, getD, take, drop}
-use Rattle.answers.specs.Runs.{join}
-use Rattle.description.specs.declared.Kind.{Kind}
 use Rattle.description.specs.declared.Dimension.{Dimension}
 use Rattle.description.specs.Limits.{Sizes}
-use Rattle.description.specs.Kinds.{kindOfDatatype}
+use Rattle.description.specs.Description.{kindAt, sideStart}
 use Rattle.ranges.specs.Ranges.{Ends, hasNan, meets}
-use Rattle.boxes.specs.Boxes.{all, sideAt}
+use Rattle.boxes.specs.Boxes.{all, readTo, sideAt}
 use Rattle.boxes.specs.Code.Carried.{carriedSide}
 use Rattle.tree.specs.Shape.{boxes, children, height, levelStart, bodyBytes, shapeOf}
 use Rattle.tree.specs.Code.Run.{State, look, run}
 use Rattle.query.specs.declared.Walk.{Walk}
 
 -- What does not change in a walk: the body and the table of its levels, the fanout, the bytes of a box; the window's
--- number of dimensions, its kinds by their Datatype numbers, and its ends.
+-- number of dimensions, its kinds and its ends.
 pub record Ground : Type 0 where
   pub body : List ℕ
   pub table : List ℕ
   pub f : ℕ
   pub b : ℕ
   pub m : ℕ
-  pub kinds : List ℕ
+  pub kinds : List Dimension
   pub ends : List ℕ
 
-abbrev pub ground : List ℕ → List ℕ → ℕ → ℕ → ℕ → List ℕ → List ℕ → Ground
+abbrev pub ground : List ℕ → List ℕ → ℕ → ℕ → ℕ → List Dimension → List ℕ → Ground
 ground body table f b m kinds ends = record { body = body; table = table; f = f; b = b; m = m; kinds = kinds; ends = ends }
 
--- the kinds that Datatype numbers stand for
-unfoldable pub dimensionsOf : List ℕ → List Dimension
-dimensionsOf kinds = join (λ i. record { kind = kindOfDatatype (getD kinds i 0) } ∷ []) 0 4
-
 -- the window's side of dimension i, as it is carried
-abbrev pub askedSide : List ℕ → List ℕ → ℕ → Ends
-askedSide kinds ends i = carriedSide (kindOfDatatype (getD kinds i 0)) ends i
+abbrev pub askedSide : List Dimension → List ℕ → ℕ → Ends
+askedSide kinds ends i = carriedSide (kindAt kinds i) ends i
 
--- the box in these bytes meets the window that is carried, in each of m dimensions
-unfoldable pub meetsCarried : List ℕ → List ℕ → ℕ → List ℕ → Bool
-meetsCarried kinds ends m bytes = all (λ i. meets (sideAt (dimensionsOf kinds) bytes i) (askedSide kinds ends i)) 0 m
+-- dimension i of the box in these bytes meets the window that is carried
+abbrev pub meetsAt : List Dimension → List ℕ → List ℕ → ℕ → Bool
+meetsAt kinds ends bytes i = meets (sideAt kinds bytes i) (askedSide kinds ends i)
+
+-- the box meets it in each of m dimensions
+unfoldable pub meetsCarried : List Dimension → List ℕ → ℕ → List ℕ → Bool
+meetsCarried kinds ends m bytes = all (meetsAt kinds ends bytes) 0 m
+
+-- how many of m dimensions are read up to the first miss
+unfoldable pub readCarried : List Dimension → List ℕ → ℕ → List ℕ → ℕ
+readCarried kinds ends m bytes = readTo (meetsAt kinds ends bytes) 0 m
 
 -- a window of at most four sides, no end of which is a NaN
-pub record Carries (kinds ends : List ℕ) (m : ℕ) : Type 0 where
+pub record Carries (kinds : List Dimension) (ends : List ℕ) (m : ℕ) : Type 0 where
   pub few : m ≤ 4
   pub numbers : (i : ℕ) → i < m → hasNan (askedSide kinds ends i) ≡ false
 
@@ -73,6 +75,7 @@ pub record Grounded (g : Ground) : Type 0 where
   pub sizes : Sizes (tilesIn g) (g .f)
   pub wide : 8 ≤ g .b
   pub narrow : g .b ≤ 64
+  pub sides : g .b ≡ sideStart (g .kinds) (g .m)
   pub whole : length (g .body) ≡ bodyBytes (g .f) (tilesIn g) (g .b)
   pub tabled : g .table ≡ shapeOf (g .f) (tilesIn g) (g .b) .table
   pub window : Carries (g .kinds) (g .ends) (g .m)
