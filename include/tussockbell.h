@@ -77,6 +77,7 @@ extern "C" {
 #define TUSSOCKBELL_REFUSED_WINDOW 19
 #define TUSSOCKBELL_REFUSED_SUM 20
 #define TUSSOCKBELL_REFUSED_RUNS 22
+#define TUSSOCKBELL_REFUSED_INFINITE 23
 
 /* The text of a refusal number. */
 static inline const char *tussockbell_refusal_text(uint64_t number)
@@ -126,6 +127,8 @@ static inline const char *tussockbell_refusal_text(uint64_t number)
         return "tile sizes add up past 2^64 - 1";
     case TUSSOCKBELL_REFUSED_RUNS:
         return "the answer run is not as long as the query run";
+    case TUSSOCKBELL_REFUSED_INFINITE:
+        return "a stored range end is infinite";
     default:
         return "no refusal number";
     }

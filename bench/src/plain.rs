@@ -48,6 +48,7 @@ mod refusal {
     /// A batch's, of which nothing stands here.
     #[allow(dead_code)]
     pub const RUNS: u64 = 22;
+    pub const INFINITE: u64 = 23;
 }
 
 #[derive(Debug, PartialEq)]
@@ -73,8 +74,8 @@ fn u64_at(bytes: &[u8], at: usize) -> u64 {
 #[derive(Clone, Copy)]
 struct Ends<T>(T, T);
 
-impl<T: PartialOrd> Ends<T> {
-    /// The refusal's number, or nothing.
+impl<T: Number> Ends<T> {
+    /// The refusal's number of a window's range, or nothing.
     fn fault(&self) -> Option<u64> {
         if self.0 <= self.1 {
             None
@@ -82,6 +83,22 @@ impl<T: PartialOrd> Ends<T> {
             Some(refusal::REVERSED)
         } else {
             Some(refusal::NOT_A_NUMBER)
+        }
+    }
+
+    /// Of a stored range, which must be finite.
+    fn stored_fault(&self) -> Option<u64> {
+        if T::finite_in_order(self.0, self.1) { None } else { Some(self.unsound()) }
+    }
+
+    /// The number of one that has a fault, apart from the loop over boxes.
+    #[cold]
+    #[inline(never)]
+    fn unsound(&self) -> u64 {
+        match self.fault() {
+            Some(refusal::NOT_A_NUMBER) => refusal::NOT_A_NUMBER,
+            _ if self.0.infinite() || self.1.infinite() => refusal::INFINITE,
+            _ => refusal::REVERSED,
         }
     }
 
@@ -97,20 +114,38 @@ impl<T: PartialOrd> Ends<T> {
 /// A number of one of the kinds, in bytes.
 trait Number: PartialOrd + Copy {
     fn ends(bytes: &[u8]) -> Ends<Self>;
+
+    /// Both are finite, and the first is at most the second.
+    fn finite_in_order(low: Self, high: Self) -> bool;
+
+    fn infinite(self) -> bool;
 }
 
 macro_rules! number {
-    ($($t:ty),*) => {
+    ($($t:ty: $finite_in_order:expr, $infinite:expr;)*) => {
         $(impl Number for $t {
             fn ends(bytes: &[u8]) -> Ends<$t> {
                 let (low, high) = bytes[..2 * size_of::<$t>()].split_at(size_of::<$t>());
                 Ends(<$t>::from_le_bytes(low.try_into().unwrap()), <$t>::from_le_bytes(high.try_into().unwrap()))
             }
+
+            fn finite_in_order(low: $t, high: $t) -> bool {
+                $finite_in_order(low, high)
+            }
+
+            fn infinite(self) -> bool {
+                $infinite(self)
+            }
         })*
     };
 }
 
-number!(i32, i64, f32, f64);
+number! {
+    i32: |low, high| low <= high, |_| false;
+    i64: |low, high| low <= high, |_| false;
+    f32: |low, high| f32::NEG_INFINITY < low && low <= high && high < f32::INFINITY, f32::is_infinite;
+    f64: |low, high| f64::NEG_INFINITY < low && low <= high && high < f64::INFINITY, f64::is_infinite;
+}
 
 impl Kind {
     pub const ALL: [Kind; 4] = [Kind::Int32, Kind::Int64, Kind::Float32, Kind::Float64];
@@ -129,7 +164,7 @@ impl Kind {
     fn judge(self, inner: &[u8], outer: &[u8]) -> (Option<u64>, bool) {
         fn one<T: Number>(inner: &[u8], outer: &[u8]) -> (Option<u64>, bool) {
             let range = T::ends(inner);
-            (range.fault(), range.inside(&T::ends(outer)))
+            (range.stored_fault(), range.inside(&T::ends(outer)))
         }
         match self {
             Kind::Int32 => one::<i32>(inner, outer),
@@ -184,6 +219,15 @@ impl Range {
             Range::Int64(ends) => ends.fault(),
             Range::Float32(ends) => ends.fault(),
             Range::Float64(ends) => ends.fault(),
+        }
+    }
+
+    fn stored_fault(&self) -> Option<u64> {
+        match self {
+            Range::Int32(ends) => ends.stored_fault(),
+            Range::Int64(ends) => ends.stored_fault(),
+            Range::Float32(ends) => ends.stored_fault(),
+            Range::Float64(ends) => ends.stored_fault(),
         }
     }
 
@@ -385,7 +429,7 @@ fn footer(d: &Description, file_size: u64, bytes: &[u8]) -> Result<(u64, usize),
     at += 2;
     let domain = at;
     for kind in d.kinds() {
-        if let Some(number) = Range::read(*kind, &bytes[at..]).fault() {
+        if let Some(number) = Range::read(*kind, &bytes[at..]).stored_fault() {
             return refuse(number, at);
         }
         at += kind.range_bytes();

@@ -307,6 +307,28 @@ class Generated(Same):
                             sides = met[:miss] + [end] + [rest] * (dimensions - miss - 1)
                             self.assertEqual(tb.box_test(d, pieces.box(d.kinds, sides), window), (False, miss + 1))
 
+    def test_stored_infinities(self):
+        """In the domain and in every box, at either end of each dimension, in order, reversed and beside a NaN. Asked as it is, the tree is walked."""
+        kinds, inf, nan = ["float32", "float64"], math.inf, math.nan
+        known, given = (make(kinds, 1, 32) for make in (rules.Description, tb.Description))
+        body = pieces.tree(kinds, [[(float(i), i + 1.5), (-float(i), 2.0 * i)] for i in range(5)], 2)
+        wide, window = [(-100.0, 100.0)] * 2, [(0.0, 2.0), (-inf, inf)]
+        foot = pieces.Footer(known, wide, tiles=5)
+        _, counts, starts = rules.check_shape(known, 5, body)
+        for low, high in ((-inf, 1.0), (1.0, inf), (-inf, inf), (inf, inf), (inf, -inf), (1.0, -inf), (nan, inf), (-inf, nan)):
+            number = 8 if math.isnan(low) or math.isnan(high) else 23
+            for side, kind in enumerate(kinds):
+                domain = pieces.Footer(known, wide[:side] + [(low, high)] + wide[side + 1 :], tiles=5)
+                self.same_footer(given, known, domain.file_size, domain.data())
+                self.same_tree(given, known, domain.file_size, domain.data(), body)
+                for box in (start + 24 * k for start, count in zip(starts, counts) for k in range(count)):
+                    at = box + 8 * side
+                    bad = changed(body, at, pieces.box([kind], [(low, high)]))
+                    self.assertEqual(outcome(opened, given, foot.file_size, foot.data(), bad), ("refused", number, at, 1))
+                    self.same_tree(given, known, foot.file_size, foot.data(), bad)
+                    self.assertIsInstance(self.same_query(given, known, 5, bad, window, kinds, window), tb.Hit)
+        self.assertEqual(self.refusals, {8, 23})
+
     def test_bad_descriptions(self):
         f = Fragment(["int32"], 3, 2, 1, random.Random(3))
         for given in BAD_DESCRIPTIONS:
@@ -463,7 +485,7 @@ class Refusals(unittest.TestCase):
         """Each refusal by one field of the sample, with the number, the place and which bytes it counts in."""
         foot, body, offsets, u64 = SAMPLE["footer"], SAMPLE["tree"], SAMPLE["offsets"], pieces.u64
         real = tb.Description(["float32"], 1, 32)
-        nan = pieces.box(["float32"], [(math.nan, 1.0)])
+        nan, infinite = (pieces.box(["float32"], [ends]) for ends in ((math.nan, 1.0), (1.0, math.inf)))
 
         def footer(at, new):
             return lambda: tb.read_footer(ONE, SAMPLE_SIZE, changed(foot, at, new))
@@ -493,6 +515,7 @@ class Refusals(unittest.TestCase):
             19: (lambda: tb.query(ONE, 3, body, [(0, 1), (0, 1)]), 0, 0),
             20: (lambda: tb.tile_sizes(2, pieces.entries([MOST, 1])), 16, 0),
             22: (lambda: tb.query_batch(ONE, 3, body, bytes(9)), 0, 0),
+            23: (lambda: tb.read_footer(real, SAMPLE_SIZE, changed(foot, 20, infinite)), 20, 0),
         }
         self.assertEqual(list(cases), REFUSALS)
         for number, (ask, place, which) in cases.items():

@@ -14,6 +14,12 @@ from rules import KINDS, LIMITS, Description, Refusal, Refused
 
 NAN32 = struct.pack("<I", 0x7FC00000)
 NAN64 = struct.pack("<Q", 0x7FF8000000000001)
+INF = float("inf")
+# Ends of a stored range, or of one that is asked with: an infinity at either end or at both, in order and reversed, and one beside a NaN.
+INFINITE = {
+    kind: [(-INF, 0.5), (0.5, INF), (INF, INF), (INF, -INF), (0.5, -INF), (nan, INF), (-INF, nan)]
+    for kind, nan in (("float32", NAN32), ("float64", NAN64))
+}
 MOST = 2**64 - 1
 # What the program reads.
 SPACE = 524_288
@@ -96,8 +102,8 @@ def footer_cases(cases):
         f = pieces.Footer(one, zero, tiles=tiles)
         for tile in (0, tiles - 1, tiles):
             ask(one, f.data(), f.file_size, tile)
-    ask_changed(mixed, [(0, 24), (-1.5, float("inf")), (-(2**63), 2**63 - 1), (0.0, -0.0)])
-    f = pieces.Footer(many, [(float("-inf"), 0.5)], name=b"\0" * 255)
+    ask_changed(mixed, [(0, 24), (-1.5, 1.7976931348623157e308), (-(2**63), 2**63 - 1), (0.0, -0.0)])
+    f = pieces.Footer(many, [(-3.4028234663852886e38, 0.5)], name=b"\0" * 255)
     ask(many, f.data(), f.file_size, 2)
     for d, f in ((two, worked), (many, f)):
         for file_size in (f.file_size, f.total() - 1):
@@ -138,11 +144,19 @@ def footer_cases(cases):
     # 8, 9: each end, each dimension, NaN before reversed, the first dimension first
     for low, high in ((NAN32, 1.0), (1.0, NAN32), (2.0, 1.0), (NAN32, NAN32)):
         ask_changed(Description(["int64", "float32"], 1, 32), [(0, 1), (low, high)])
-    for low, high in ((NAN64, 1.0), (1.0, NAN64), (float("inf"), float("-inf"))):
+    for low, high in ((NAN64, 1.0), (1.0, NAN64), (2.0, 1.0)):
         ask_changed(Description(["float64", "int64"], 1, 32), [(low, high), (1, 0)])
     ask_changed(one, [(1, 0)])
     ask_changed(one, [(0, -1)])
     ask_changed(Description(["int64"], 1, 32), [(0, -(2**63))])
+
+    # 23: after 8 and before 9, both widths, in each dimension; an infinity of the first before the second's fault, and after the first's
+    for kind in INFINITE:
+        for pair in INFINITE[kind]:
+            ask_changed(Description([kind, "int64"], 1, 32), [pair, (1, 0)])
+            ask_changed(Description(["int64", kind], 1, 32), [(0, 1), pair])
+        ask_changed(Description([kind, kind], 1, 32), [(2.0, 1.0), (-INF, INF)])
+        ask_changed(Description([kind, kind], 1, 32), [(-INF, INF), (2.0, 1.0)])
 
     # 10, 11
     for tiles in (0, MOST_TILES + 1, MOST):
@@ -368,7 +382,7 @@ def tree_cases(cases):
     mixed = Description(["float32", "int64"], 1, 32)
     boxes = [[(float(i), i + 1.5), (-i, 2 * i)] for i in range(5)]
     body = pieces.tree(mixed.kinds, boxes, 3)
-    foot = pieces.Footer(mixed, [(float("-inf"), float("inf")), (-100, 100)], tiles=5)
+    foot = pieces.Footer(mixed, [(-1e30, 1e30), (-100, 100)], tiles=5)
     ask_open(mixed, foot, body)
     _, counts, starts = rules.check_shape(mixed, 5, body)
     for start, count in zip(starts, counts):
@@ -385,8 +399,37 @@ def tree_cases(cases):
             ask(mixed, 5, broken, mixed.kinds, [(0.0, 9.0), (-9, 9)])
             ask(mixed, 5, body[:at] + pieces.box(["float32"], [(2.0, 1.0)]) + body[at + 8 :], mixed.kinds, [(0.0, 9.0), (-9, 9)])
 
+    # 23 in the domain and in every box, root, inner box and leaf, in each dimension, both widths; asked as it is, such a tree is walked
+    floats = Description(["float64", "float32"], 1, 32)
+    fine = pieces.tree(floats.kinds, [[(float(i), i + 1.5), (-float(i), 2.5 * i)] for i in range(5)], 3)
+    wide = [(-1e30, 1e30), (-1e30, 1e30)]
+    ask_open(floats, pieces.Footer(floats, wide, tiles=5), fine)
+    for i, kind in enumerate(floats.kinds):
+        for pair in INFINITE[kind]:
+            ask_open(floats, pieces.Footer(floats, wide[:i] + [pair] + wide[i + 1 :], tiles=5), fine)
+    _, counts, starts = rules.check_shape(floats, 5, fine)
+    for start, count in zip(starts, counts):
+        for k in range(count):
+            for kind, side in (("float64", 0), ("float32", 16)):
+                at = start + 24 * k + side
+                for pair in INFINITE[kind] if k == 0 else INFINITE[kind][:2]:
+                    bad = fine[:at] + pieces.box([kind], [pair]) + fine[at + KINDS[kind].range_bytes :]
+                    ask_open(floats, pieces.Footer(floats, wide, tiles=5), bad)
+                if k > 0:
+                    continue
+                ask(floats, 5, bad, floats.kinds, [(0.0, 2.0), (-2.0, 2.0)])
+                bad = fine[:at] + pieces.box([kind], [(-INF, INF)]) + fine[at + KINDS[kind].range_bytes :]
+                ask(floats, 5, bad, floats.kinds, [(0.0, 2.0), (-2.0, 2.0)])
+    bad = fine[:16] + pieces.box(["float64"], [(-INF, INF)]) + fine[32:]
+    ask(floats, 5, bad, floats.kinds, [(-INF, INF), (INF, INF)])
+    ask_opened(floats, pieces.Footer(floats, wide, tiles=5), bad, floats.kinds, [(0.0, 2.0), (-2.0, 2.0)])
+    for i, kind in enumerate(floats.kinds):
+        for pair in INFINITE[kind]:
+            window = [(0.0, 2.0), (-2.0, 2.0)]
+            ask(floats, 5, fine, floats.kinds, window[:i] + [pair] + window[i + 1 :])
+
     # the window: 19 for the number, then per dimension 19, 8, 9
-    inf = float("inf")
+    inf = INF
     ask(mixed, 5, body, ["float32"], [(0.0, 1.0)])
     ask(mixed, 5, body, ["float32", "int64", "int64"], [(0.0, 1.0), (0, 1), (0, 1)])
     for kinds, window in (

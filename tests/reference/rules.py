@@ -60,6 +60,7 @@ class Refusal:
     WINDOW = 19
     SUM = 20
     RUNS = 22
+    INFINITE = 23
 
 
 def allowed(what, x):
@@ -94,6 +95,10 @@ def is_nan(x):
     return isinstance(x, float) and math.isnan(x)
 
 
+def is_infinite(x):
+    return isinstance(x, float) and math.isinf(x)
+
+
 def stored_range(kind, data, at):
     half = KINDS[kind].range_bytes // 2
     low = struct.unpack(KINDS[kind].format, data[at : at + half])[0]
@@ -113,6 +118,8 @@ def check_ranges(d, data, at):
     for kind, (low, high) in zip(d.kinds, stored_box(d, data, at)):
         if is_nan(low) or is_nan(high):
             raise Refused(Refusal.NOT_A_NUMBER, at)
+        if is_infinite(low) or is_infinite(high):
+            raise Refused(Refusal.INFINITE, at)
         if low > high:
             raise Refused(Refusal.REVERSED, at)
         at += KINDS[kind].range_bytes

@@ -86,6 +86,7 @@ _TEXTS = {
     19: "the window's dimension number or a kind differs",
     20: "tile sizes add up past 2^64 - 1",
     22: "the answer run is not as long as the query run",
+    23: "a stored range end is infinite",
 }
 
 _NUMBER, _PLACE = 0, 1

@@ -181,6 +181,32 @@ fn a_bad_side_is_refused_at_its_dimension() {
 }
 
 #[test]
+fn a_stored_infinity_is_refused_and_a_window_may_be_open() {
+    let floats = Fixture::named("float32");
+    let d = floats.description();
+    let tiles = floats.open().tiles();
+    let open = [Range::Float32(f32::NEG_INFINITY, f32::INFINITY)];
+    let domain = 14 + u64::from_le_bytes(floats.footer[4..12].try_into().unwrap()) as usize;
+    for (low, high, number) in [
+        (f32::NEG_INFINITY, f32::INFINITY, Refused::INFINITE),
+        (f32::INFINITY, f32::NEG_INFINITY, Refused::INFINITE),
+        (f32::NEG_INFINITY, f32::NAN, Refused::NOT_A_NUMBER),
+    ] {
+        let ends = [low.to_le_bytes(), high.to_le_bytes()].concat();
+        let mut footer = floats.footer.clone();
+        footer[domain..domain + 8].copy_from_slice(&ends);
+        assert_eq!(read_footer(&d, floats.file_size, &footer).unwrap_err(), refusal(number, domain as u64));
+        let mut root = floats.tree.clone();
+        root[16..24].copy_from_slice(&ends);
+        let second = Refused { which: Which::Second, ..refusal(number, 16) };
+        assert_eq!(open_tree(&d, floats.file_size, &floats.footer, &root).unwrap_err(), second);
+        // asked as it is, the tree is walked: a root with a NaN meets nothing
+        let found = if high.is_nan() { 0 } else { tiles };
+        assert_eq!(query(&d, tiles, &root, &open, &mut []).unwrap().found, found);
+    }
+}
+
+#[test]
 fn the_widest_window_finds_every_tile() {
     let mixed = Fixture::named("mixed");
     let widest = [

@@ -93,3 +93,7 @@ sizesSum = 20
 -- the answer run is not as long as the query run
 abbrev pub runs : ℕ
 runs = 22
+
+-- a stored range end is infinite
+abbrev pub infinite : ℕ
+infinite = 23

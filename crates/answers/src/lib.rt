@@ -53,6 +53,8 @@ impl Refusal {
 
     pub const RUNS: u64 = 22;
 
+    pub const INFINITE: u64 = 23;
+
     pub fn none() -> Refusal
         ensures { λ r. ⌜ r ≡ none ⌝ }
     {

@@ -8,15 +8,17 @@ use Prim.Native.Nat.{ℕ, _+_, _-_, _≤_, _<_}
 use native.Mathlib.Nat.{zero-add}
 use native.Mathlib.Omega.{arith}
 use borrow.Author.Tests.{lt-ltb}
+use Rattle.answers.proofs.Checks.{each-clear}
 use Rattle.answers.proofs.Runs.{Each, over-left, over-done, over-unit, over-says}
 use Rattle.answers.proofs.Filled.{row-at}
 use Rattle.description.specs.declared.Dimension.{Dimension}
 use Rattle.description.specs.Description.{kindAt, sideStart}
 use Rattle.description.proofs.Tests.{both, and-assoc, and-true}
 use Rattle.ranges.specs.Ranges.{endsOf, rangeAt}
+use Rattle.ranges.proofs.Judging.{stored-finite}
 use Rattle.ranges.proofs.Comparing.{meets-around}
 use Rattle.boxes.specs.declared.Side.{Side}
-use Rattle.boxes.specs.Boxes.{rangeIn, all, sideAt, boxOf, boxInside, boxMeets}
+use Rattle.boxes.specs.Boxes.{rangeIn, all, sideAt, boxOf, rangesRefusal, boxFinite, boxInside, boxMeets}
 
 -- ---- every one passes
 pub all-says : (g : ℕ → Bool) (k m : ℕ) → all g k m ≡ true → Each (λ i. g i ≡ true) k m
@@ -57,3 +59,9 @@ module _ (kinds : List Dimension) (m : ℕ) where
   unfolding boxInside boxMeets
   box-meets-around b o w p q =
       all-when _ 0 m (λ i k l. meets-around (sideAt kinds b i) (sideAt kinds o i) (endsOf (rangeIn w i)) (all-says _ 0 m p i k l) (all-says _ 0 m q i k l))
+
+  -- a stored box whose ranges are not refused is finite
+  pub box-finite : (bytes : List ℕ) (start : ℕ) → rangesRefusal kinds m bytes start .number ≡ 0 → boxFinite kinds m bytes ≡ true
+  unfolding rangesRefusal boxFinite
+  box-finite bytes start h =
+      all-when _ 0 m (λ i k l. stored-finite (sideAt kinds bytes i) _ (start + sideStart kinds i) (each-clear _ 0 m h i k l))

@@ -16,7 +16,7 @@ use Rattle.answers.proofs.Runs.{over-map, over-ext}
 use Rattle.answers.proofs.Checks.{each-clear, all-clear, each-has}
 use Rattle.description.specs.declared.Dimension.{Dimension}
 use Rattle.ranges.specs.declared.Verdict.{Verdict}
-use Rattle.ranges.specs.declared.Verdict.the-variants.{Sound, NotANumber, Reversed}
+use Rattle.ranges.specs.declared.Verdict.the-variants.{Sound, Infinite, InfiniteReversed, NotANumber, Reversed}
 use Rattle.description.specs.Description.{kindAt, sideStart}
 use Rattle.ranges.specs.Ranges.{verdictAt, storedRefusal}
 use Rattle.boxes.specs.Boxes.{rangesRefusal}
@@ -43,12 +43,16 @@ module _ (start : ℕ) where
 
   moved-told : (j : Verdict) (place : ℕ) → moved start (storedRefusal j (0 + place)) ≡ storedRefusal j (start + place)
   moved-told (Sound r) place = refl
+  moved-told (Infinite r) place = rw zero-add
+  moved-told InfiniteReversed place = rw zero-add
   moved-told NotANumber place = rw zero-add
   moved-told Reversed place = rw zero-add
 
 -- a range that is not refused says nothing at all
 told-clear : (j : Verdict) (place : ℕ) → storedRefusal j place .number ≡ 0 → storedRefusal j place ≡ none
 told-clear (Sound r) place h = refl
+told-clear (Infinite r) place h = absurd (eqb-false 23 0 refl h)
+told-clear InfiniteReversed place h = absurd (eqb-false 23 0 refl h)
 told-clear NotANumber place h = absurd (eqb-false 8 0 refl h)
 told-clear Reversed place h = absurd (eqb-false 9 0 refl h)
 
@@ -70,6 +74,8 @@ module _ (kinds : List Dimension) (m : ℕ) (bytes : List ℕ) (start : ℕ) whe
 -- a fault of the ranges is placed before the box's end
 told-before : (v : Verdict) (place most : ℕ) → place ≤ most → storedRefusal v place .place ≤ most
 told-before (Sound r) place most h = omega arith
+told-before (Infinite r) place most h = h
+told-before InfiniteReversed place most h = h
 told-before NotANumber place most h = h
 told-before Reversed place most h = h
 

@@ -20,7 +20,7 @@ use Rattle.description.specs.declared.Dimension.{Dimension}
 use Rattle.description.specs.Description.{kindAt, sideStart}
 use Rattle.description.proofs.Tests.{both}
 use Rattle.ranges.specs.declared.Verdict.{Verdict}
-use Rattle.ranges.specs.declared.Verdict.the-variants.{Sound, NotANumber, Reversed}
+use Rattle.ranges.specs.declared.Verdict.the-variants.{Sound, Infinite, InfiniteReversed, NotANumber, Reversed}
 use Rattle.ranges.specs.Ranges.{verdictAt, storedRefusal, inside}
 use Rattle.boxes.specs.Boxes.{all, sideAt, rangesRefusal, boxInside, boxRefusal}
 use Rattle.boxes.specs.Code.Carried.{endsIn}
@@ -32,11 +32,15 @@ use Rattle.boxes.proofs.Carrying.{carried-again}
 -- a verdict says nothing where it is sound, and only there
 pub sound-none : (v : Verdict) (place : ℕ) → isSound v ≡ true → storedRefusal v place ≡ none
 sound-none (Sound r) place h = refl
+sound-none (Infinite r) place h = absurd (true≢false (sym h))
+sound-none InfiniteReversed place h = absurd (true≢false (sym h))
 sound-none NotANumber place h = absurd (true≢false (sym h))
 sound-none Reversed place h = absurd (true≢false (sym h))
 
 pub none-sound : (v : Verdict) (place : ℕ) → storedRefusal v place .number ≡ 0 → isSound v ≡ true
 none-sound (Sound r) place h = refl
+none-sound (Infinite r) place h = absurd (omega arith)
+none-sound InfiniteReversed place h = absurd (omega arith)
 none-sound NotANumber place h = absurd (omega arith)
 none-sound Reversed place h = absurd (omega arith)
 

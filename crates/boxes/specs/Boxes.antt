@@ -13,7 +13,7 @@ use Rattle.description.specs.declared.Dimension.{Dimension}
 use Rattle.description.specs.Description.{kindAt, sideStart}
 use Rattle.ranges.specs.declared.Range.{Range}
 use Rattle.ranges.specs.declared.Range.the-variants.{I32, I64}
-use Rattle.ranges.specs.Ranges.{Ends, endsAt, endsOf, rangeAt, storedRefusal, verdictAt, inside, meets}
+use Rattle.ranges.specs.Ranges.{Ends, endsAt, endsOf, rangeAt, isFinite, storedRefusal, verdictAt, inside, meets}
 use Rattle.boxes.specs.declared.Side.{Side}
 
 -- an int64 range 0 to 0, which box places past D hold
@@ -47,10 +47,14 @@ module _ (kinds : List Dimension) where
   boxOf m bytes =
       join (λ i. cond (ltb i m) (record { range = rangeAt (kindAt kinds i) bytes (sideStart kinds i) }) noSide ∷ []) 0 4
 
-  -- the ranges of m dimensions in turn: 8 or 9 at the start of the range, in a box that starts at `start`
+  -- the ranges of m dimensions in turn: 8, 23 or 9 at the start of the range, in a box that starts at `start`
   unfoldable pub rangesRefusal : ℕ → List ℕ → ℕ → Refusal
   rangesRefusal m bytes start =
       each (λ i. storedRefusal (verdictAt (kindAt kinds i) bytes (sideStart kinds i)) (start + sideStart kinds i)) 0 m
+
+  -- every end of m dimensions is finite
+  unfoldable pub boxFinite : ℕ → List ℕ → Bool
+  boxFinite m bytes = all (λ i. isFinite (sideAt bytes i)) 0 m
 
   -- a box's bytes against another's: inside or equal in each of m dimensions
   unfoldable pub boxInside : ℕ → List ℕ → List ℕ → Bool

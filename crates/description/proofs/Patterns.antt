@@ -2,21 +2,24 @@
 -- so it is reflexive where there is no NaN, and transitive. Two patterns are alike where they are one, or both a NaN's: then every comparison
 -- tells the same of both.
 -- Assumes nothing.
-use mathlib.Core.Path.{_≡_, sym, ap, _∙_}
+use mathlib.Core.Path.{_≡_, refl, sym, ap, _∙_}
 use mathlib.Core.Logic.{_⊎_, inl, inr}
 use mathlib.Core.Bool.{true, false, not, _&&_}
 use Prim.Native.Nat.{ℕ, _≤_, _<_, _^_}
 use native.Mathlib.Nat.{le-refl, le-trans}
 use lib.Dec.{leb}
+use lib.Ieee.{binary32, binary64}
 use lib.IntN.{ℤ}
 use lib.Signed.{mag}
 use mir.Syntax.{Width}
 use mir.Val.{hbits, toZ, ofZ}
 use mir.ValLaws.{toZ-ofZ}
 use Rattle.order.specs.Key.{signedAtMost}
+use Rattle.order.proofs.Infinities.{nan-finite}
 use borrow.Author.Tests.{le-leb, leb-true, not-true}
 use Rattle.description.specs.declared.Kind.{Kind}
-use Rattle.description.specs.Kinds.{key, isNan, atMost}
+use Rattle.description.specs.declared.Kind.the-variants.{Int32, Int64, Float32, Float64}
+use Rattle.description.specs.Kinds.{key, isNan, isInfinite, atMost}
 use Rattle.description.proofs.Tests.{both}
 
 -- what it says
@@ -41,6 +44,14 @@ at-most-trans k a b c p q =
     let t = at-most-says k b c q in
     at-most-when k a c (s .0) (t .1) (le-trans (s .2) (t .2))
 
+-- a NaN is no infinity
+pub nan-no-infinity : (k : Kind) (a : ℕ) → isNan k a ≡ true → isInfinite k a ≡ false
+unfolding isNan isInfinite
+nan-no-infinity Int32 a h = refl
+nan-no-infinity Int64 a h = refl
+nan-no-infinity Float32 a h = nan-finite binary32 a h
+nan-no-infinity Float64 a h = nan-finite binary64 a h
+
 -- alike
 abbrev pub Alike : Kind → ℕ → ℕ → Type 0
 Alike k p q = (p ≡ q) ⊎ ((isNan k p ≡ true) × (isNan k q ≡ true))
@@ -49,6 +60,10 @@ module _ (k : Kind) (p q : ℕ) where
   pub alike-nan : Alike k p q → isNan k p ≡ isNan k q
   alike-nan (inl e) = rw e
   alike-nan (inr h) = h .0 ∙ sym (h .1)
+
+  pub alike-infinite : Alike k p q → isInfinite k p ≡ isInfinite k q
+  alike-infinite (inl e) = rw e
+  alike-infinite (inr h) = nan-no-infinity k p (h .0) ∙ sym (nan-no-infinity k q (h .1))
 
   pub alike-left : (x : ℕ) → Alike k p q → atMost k p x ≡ atMost k q x
   unfolding atMost

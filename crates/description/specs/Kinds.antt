@@ -5,7 +5,7 @@ use mathlib.Core.Bool.{Bool, false, not, _&&_, cond}
 use lib.Dec.{leb, eqb}
 use lib.Ieee.{binary32, binary64, nanBits}
 use mir.Syntax.{w32, w64}
-use Rattle.order.specs.Key.{signedKey, floatKey}
+use Rattle.order.specs.Key.{signedKey, floatKey, infinite}
 use Rattle.description.specs.declared.Kind.{Kind}
 use Rattle.description.specs.declared.Kind.the-variants.{Int32, Int64, Float32, Float64}
 
@@ -53,6 +53,13 @@ isNan Int32 p = false
 isNan Int64 p = false
 isNan Float32 p = nanBits binary32 p
 isNan Float64 p = nanBits binary64 p
+
+-- a pattern that is an infinity's
+unfoldable pub isInfinite : Kind → ℕ → Bool
+isInfinite Int32 p = false
+isInfinite Int64 p = false
+isInfinite Float32 p = infinite binary32 p
+isInfinite Float64 p = infinite binary64 p
 
 -- neither pattern is a NaN's, and the first is at most the second
 unfoldable pub atMost : Kind → ℕ → ℕ → Bool

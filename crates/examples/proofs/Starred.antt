@@ -15,8 +15,8 @@ use Rattle.answers.specs.Checks.{first}
 use Rattle.answers.specs.Runs.{over}
 use Rattle.boxes.specs.Boxes.{boxOf, rangesRefusal, boxInside, boxRefusal, boxMeets}
 use Rattle.description.specs.Description.{descriptionRefusal, sideStart, boxBytes}
-use Rattle.description.specs.Kinds.{key, isNan, atMost}
-use Rattle.ranges.specs.Ranges.{endsAt, endsOf, hasNan, isReversed, verdict, inside, meets}
+use Rattle.description.specs.Kinds.{key, isNan, isInfinite, atMost}
+use Rattle.ranges.specs.Ranges.{endsAt, endsOf, hasNan, hasInfinity, isReversed, verdict, inside, meets}
 use Rattle.boxes.specs.Windows.{sideRefusal, windowRefusal}
 use Rattle.footer.specs.Answer.{totalCells, entries, refusedFooter, acceptedFooter, footerAnswer, footerAnswerBy}
 use Rattle.footer.specs.Checks.{noFlag, flagSet, numberOutside, fileOffsetsRefusal, footerRefusalBy}
@@ -120,5 +120,5 @@ stated =
     ∷ []
 
 starred : worked ≡ stated
-unfolding first over boxOf rangesRefusal boxInside boxRefusal boxMeets descriptionRefusal sideStart boxBytes key isNan atMost endsAt endsOf hasNan isReversed verdict inside meets sideRefusal windowRefusal totalCells entries refusedFooter acceptedFooter footerAnswerBy noFlag flagSet numberOutside fileOffsetsRefusal footerRefusalBy start footerBytes listRefusalBy entriesRefusalBy offsetsRefusalBy signedKey little firstOfTwo secondOfTwo frontRefusal sizeRefusal countsRefusal shapeRefusal rootRefusal innerRefusal levelRefusal boxesRefusal bodyRefusal openAnswerBy askedRefusalBy queryRefusalBy meeting queryAnswerBy queryBufferBy up boxes children heightAbove height levels allBoxes boxesAbove levelStart bodyBytes looked found le described footerOf box treeA window asked opened told sized worked stated
+unfolding first over boxOf rangesRefusal boxInside boxRefusal boxMeets descriptionRefusal sideStart boxBytes key isNan isInfinite atMost endsAt endsOf hasNan hasInfinity isReversed verdict inside meets sideRefusal windowRefusal totalCells entries refusedFooter acceptedFooter footerAnswerBy noFlag flagSet numberOutside fileOffsetsRefusal footerRefusalBy start footerBytes listRefusalBy entriesRefusalBy offsetsRefusalBy signedKey little firstOfTwo secondOfTwo frontRefusal sizeRefusal countsRefusal shapeRefusal rootRefusal innerRefusal levelRefusal boxesRefusal bodyRefusal openAnswerBy askedRefusalBy queryRefusalBy meeting queryAnswerBy queryBufferBy up boxes children heightAbove height levels allBoxes boxesAbove levelStart bodyBytes looked found le described footerOf box treeA window asked opened told sized worked stated
 starred = refl

@@ -5,7 +5,7 @@ use mathlib.Core.List.{[], _∷_}
 use lib.Ieee.{binary32, binary64, nanBits}
 use mir.Syntax.{w32, w64}
 use Rattle.order.specs.Little.{little}
-use Rattle.order.specs.Key.{floatKey, floatAtMost, signedKey, signedAtMost}
+use Rattle.order.specs.Key.{floatKey, floatAtMost, infinite, signedKey, signedAtMost}
 
 -- both zeros are equal
 zeros : (floatKey binary32 0x8000_0000 ≡ floatKey binary32 0) × (floatKey binary64 0x8000_0000_0000_0000 ≡ floatKey binary64 0)
@@ -39,6 +39,18 @@ nans : (floatAtMost binary32 0x7f80_0001 0x7f80_0001 ≡ false)
     × (floatAtMost binary64 0x7ff8_0000_0000_0000 0x7ff0_0000_0000_0000 ≡ false)
 unfolding floatAtMost floatKey nanBits
 nans = (refl, refl, refl, refl)
+
+-- inf and -inf of both widths; not the largest finite value, nor the NaN next above an infinity, nor -0.0
+infinities : (infinite binary32 0x7f80_0000 ≡ true)
+    × (infinite binary32 0xff80_0000 ≡ true)
+    × (infinite binary64 0x7ff0_0000_0000_0000 ≡ true)
+    × (infinite binary64 0xfff0_0000_0000_0000 ≡ true)
+    × (infinite binary32 0x7f7f_ffff ≡ false)
+    × (infinite binary64 0xffef_ffff_ffff_ffff ≡ false)
+    × (infinite binary32 0x7f80_0001 ≡ false)
+    × (infinite binary64 0x8000_0000_0000_0000 ≡ false)
+unfolding infinite
+infinities = (refl, refl, refl, refl, refl, refl, refl, refl)
 
 -- -2147483648 to 2147483647, -1 to 0 and not back; -9223372036854775808 to 0
 whole : (signedAtMost w32 0x8000_0000 0x7fff_ffff ≡ true)

@@ -73,20 +73,20 @@ under-ones f s (suc x) t l =
     apart e = lt-irrefl (ones f) (subst (λ (y : ℕ). y < ones f) e l)
 
 -- the magnitude of an infinity
-abbrev infinite : Format → ℕ
-infinite f = ones f * hid f
+abbrev pub infinity : Format → ℕ
+infinity f = ones f * hid f
 
-Read : Format → ℕ → Bool → Float → Type 0
+unfoldable pub Read : Format → ℕ → Bool → Float → Type 0
 Read f r s v =
-    ((r ≡ infinite f) × (v ≡ inf s)) ⊎ ((r < infinite f) × HasValue v s (size (prec f - 1) r) (2 ^ low f))
+    ((r ≡ infinity f) × (v ≡ inf s)) ⊎ ((r < infinity f) × HasValue v s (size (prec f - 1) r) (2 ^ low f))
 
-reads : (f : Format) (p : ℕ) → nanBits f p ≡ false → Read f (p % top f) (leb (top f) p) (ofBits f p)
+pub reads : (f : Format) (p : ℕ) → nanBits f p ≡ false → Read f (p % top f) (leb (top f) p) (ofBits f p)
 unfolding ofBits Read
 reads f p h =
     let r = p % top f in
     let s = leb (top f) p in
     let d : r % hid f ≡ p % hid f = mod-mod-of-dvd (hid f) p (dvd-mul-right (hid f) (suc (ones f))) in
-    elim (eq-or-lt-of-le (nltb→le (infinite f) r (subst (λ (b : Bool). T (not b)) (sym h ∙ nanBits-above f p) tt))) [
+    elim (eq-or-lt-of-le (nltb→le (infinity f) r (subst (λ (b : Bool). T (not b)) (sym h ∙ nanBits-above f p) tt))) [
       | inl e ↦
           inl (
             e,
@@ -125,13 +125,13 @@ fin-inf true false m e r i l = refl
 fin-inf true true m e r i l = sym (is-false (leb i r) (not-T (leb i r) (clash r i l)))
 
 -- a value with a fraction is finite, and has that sign
-finite : (P : Float → Type 0) (v : Float) (s : Bool) (a c : ℕ) → HasValue v s a c → ((m : ℕ) (e : ℤ) → P (fin s m e)) → P v
+pub finite : (P : Float → Type 0) (v : Float) (s : Bool) (a c : ℕ) → HasValue v s a c → ((m : ℕ) (e : ℤ) → P (fin s m e)) → P v
 finite P nan s a c h g = absurd h
 finite P (inf t) s a c h g = absurd h
 finite P (fin t m e) s a c h g = subst (λ (b : Bool). P (fin b m e)) (sym (h .0)) (g m e)
 
-infinite-pos : (f : Format) → 0 < infinite f
-infinite-pos f = mul-pos (plus-one (emax f)) (pow-pos (prec f - 1))
+infinity-pos : (f : Format) → 0 < infinity f
+infinity-pos f = mul-pos (plus-one (emax f)) (pow-pos (prec f - 1))
   where
     plus-one : (e : ℕ) → 0 < 2 * e + 1
     plus-one e = omega arith
@@ -139,14 +139,14 @@ infinite-pos f = mul-pos (plus-one (emax f)) (pow-pos (prec f - 1))
 le-read : (f : Format) (x y : Float) (s t : Bool) (q r : ℕ) → Read f q s x → Read f r t y → le x y ≡ atMost s q t r
 unfolding Read
 le-read f x y s t q r (inl h) (inl k) =
-    (λ i. le (h .1 i) (k .1 i)) ∙ inf-inf s t (infinite f) (infinite-pos f) ∙ (λ i. atMost s (sym (h .0) i) t (sym (k .0) i))
+    (λ i. le (h .1 i) (k .1 i)) ∙ inf-inf s t (infinity f) (infinity-pos f) ∙ (λ i. atMost s (sym (h .0) i) t (sym (k .0) i))
 le-read f x y s t q r (inl h) (inr k) =
     ap (λ (z : Float). le z y) (h .1)
-    ∙ finite (λ (z : Float). le (inf s) z ≡ atMost s (infinite f) t r) y t (size (prec f - 1) r) (2 ^ low f) (k .1) (λ m e. inf-fin s t m e r (infinite f) (k .0))
+    ∙ finite (λ (z : Float). le (inf s) z ≡ atMost s (infinity f) t r) y t (size (prec f - 1) r) (2 ^ low f) (k .1) (λ m e. inf-fin s t m e r (infinity f) (k .0))
     ∙ ap (λ (z : ℕ). atMost s z t r) (sym (h .0))
 le-read f x y s t q r (inr h) (inl k) =
     ap (λ (z : Float). le x z) (k .1)
-    ∙ finite (λ (z : Float). le z (inf t) ≡ atMost s q t (infinite f)) x s (size (prec f - 1) q) (2 ^ low f) (h .1) (λ m e. fin-inf s t m e q (infinite f) (h .0))
+    ∙ finite (λ (z : Float). le z (inf t) ≡ atMost s q t (infinity f)) x s (size (prec f - 1) q) (2 ^ low f) (h .1) (λ m e. fin-inf s t m e q (infinity f) (h .0))
     ∙ ap (λ (z : ℕ). atMost s q t z) (sym (k .0))
 le-read f x y s t q r (inr h) (inr k) =
     let p = prec f - 1 in

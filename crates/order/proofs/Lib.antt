@@ -5,6 +5,7 @@ pub mod Tests
 pub mod Sides
 pub mod Worth
 pub mod Floats
+pub mod Infinities
 pub mod Signed
 pub mod Read
 pub mod Cases

@@ -38,7 +38,7 @@ nan-doubled f p =
 pub no-nan : (f : Format) (p : ℕ) → nanBits f p ≡ false → T (not (nanBits f p))
 no-nan f p h = subst (λ (b : Bool). T (not b)) (sym h) tt
 
-is-nan : (x : Float) → isNan x ≡ true → nan ≡ x
+pub is-nan : (x : Float) → isNan x ≡ true → nan ≡ x
 unfolding isNan
 is-nan nan h = refl
 is-nan (inf s) h = absurd (true≢false (sym h))

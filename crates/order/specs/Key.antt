@@ -1,8 +1,8 @@
 -- In which order do two bit patterns stand? In that of their keys, which are whole numbers. Assumes nothing.
-use Prim.Native.Nat.{ℕ, _+_, _-_, _%_, _^_}
+use Prim.Native.Nat.{ℕ, _+_, _-_, _*_, _%_, _^_}
 use mathlib.Core.Bool.{Bool, not, _&&_, cond}
-use lib.Dec.{leb}
-use lib.Ieee.{Format, top, nanBits}
+use lib.Dec.{leb, eqb}
+use lib.Ieee.{Format, hid, ones, top, nanBits}
 use mir.Syntax.{Width}
 use mir.Val.{bits, hbits}
 
@@ -18,6 +18,11 @@ floatKey f p = about (top f) (leb (top f) p) (p % top f)
 -- Neither pattern is a NaN's, and the first is at most the second.
 unfoldable pub floatAtMost : Format → ℕ → ℕ → Bool
 floatAtMost f a b = not (nanBits f a) && (not (nanBits f b) && leb (floatKey f a) (floatKey f b))
+
+-- A pattern is an infinity's, of either sign: without the sign, the exponent's field, of weight `hid f`, is all ones,
+-- and the digits below it are 0.
+unfoldable pub infinite : Format → ℕ → Bool
+infinite f p = eqb (p % top f) (ones f * hid f)
 
 -- Two's complement: the patterns of the negative numbers follow those of the others, and adding half of all the
 -- patterns, modulo all of them, puts them in front.

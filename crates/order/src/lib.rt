@@ -1,13 +1,14 @@
 // What do bytes and bit patterns stand for, and in which order? Little-endian reads, the values of patterns, and
 // comparisons whose contracts speak of the patterns alone.
 ghost use mathlib.Core.Path.{_≡_};
+ghost use mathlib.Core.Bool.{not, _&&_};
 ghost use Prim.Native.Nat.{_+_, _≤_, _<_};
 ghost use lib.ListN.{length};
 ghost use lib.Ieee.{binary32, binary64, toBits, ofBits, nanBits};
 ghost use mir.Syntax.{w32, w64};
 ghost use mir.Val.{toZ, ofZ};
 ghost use Rattle.order.specs.Little.{little, firstOfTwo, secondOfTwo};
-ghost use Rattle.order.specs.Key.{floatAtMost, signedAtMost};
+ghost use Rattle.order.specs.Key.{floatAtMost, infinite, signedAtMost};
 
 // The four bytes at a place. A byte past the end counts 0.
 pub fn u32_at(s: &[u8], at: usize) -> u32
@@ -166,6 +167,37 @@ pub fn f64_at_most(a: f64, b: f64) -> bool
     ensures { λ r. ⌜ r ≡ floatAtMost binary64 (toBits binary64 a) (toBits binary64 b) ⌝ }
 {
     a <= b
+}
+
+// Is a at most b, and neither of them an infinity? Nothing is above the upper infinity and nothing below the lower one,
+// so three comparisons tell it.
+pub fn f32_finite_at_most(a: f32, b: f32) -> bool
+    ensures { λ r. ⌜ r ≡ (floatAtMost binary32 (toBits binary32 a) (toBits binary32 b)
+        && (not (infinite binary32 (toBits binary32 a)) && not (infinite binary32 (toBits binary32 b)))) ⌝ }
+{
+    -1.0 / 0.0 < a && a <= b && b < 1.0 / 0.0
+}
+
+// The same of 64 bits.
+pub fn f64_finite_at_most(a: f64, b: f64) -> bool
+    ensures { λ r. ⌜ r ≡ (floatAtMost binary64 (toBits binary64 a) (toBits binary64 b)
+        && (not (infinite binary64 (toBits binary64 a)) && not (infinite binary64 (toBits binary64 b)))) ⌝ }
+{
+    -1.0 / 0.0 < a && a <= b && b < 1.0 / 0.0
+}
+
+// An infinity is equal to one that dividing by zero makes.
+pub fn f32_is_infinite(x: f32) -> bool
+    ensures { λ r. ⌜ r ≡ infinite binary32 (toBits binary32 x) ⌝ }
+{
+    x == 1.0 / 0.0 || x == -1.0 / 0.0
+}
+
+// The same of 64 bits.
+pub fn f64_is_infinite(x: f64) -> bool
+    ensures { λ r. ⌜ r ≡ infinite binary64 (toBits binary64 x) ⌝ }
+{
+    x == 1.0 / 0.0 || x == -1.0 / 0.0
 }
 
 // A NaN alone differs from itself.

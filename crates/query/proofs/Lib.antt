@@ -1,6 +1,7 @@
 -- The laws that belong to no one function.
 pub mod Promised
 pub mod Rules
+pub mod Never
 mod Rows
 mod Root
 mod Window

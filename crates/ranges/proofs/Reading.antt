@@ -26,7 +26,7 @@ use Rattle.description.specs.declared.Kind.{Kind}
 use Rattle.description.specs.declared.Kind.the-variants.{Int32, Int64, Float32, Float64}
 use Rattle.description.specs.Kinds.{rangeBytes, endBytes, isNan}
 use Rattle.description.proofs.Datatypes.{when-same}
-use Rattle.description.proofs.Patterns.{Alike, alike-nan, alike-left, alike-right}
+use Rattle.description.proofs.Patterns.{Alike, alike-nan, alike-infinite, alike-left, alike-right}
 use Rattle.ranges.specs.declared.Range.{Range}
 use Rattle.ranges.specs.Ranges.{Ends, ends, kindOf, endsAt, endsOf, fitted, rangeOf, rangeAt, verdict, inside, meets}
 use Rattle.ranges.proofs.Judging.{verdict-on-is}
@@ -101,7 +101,7 @@ module _ (k : Kind) (a b : ℕ) (a-fits : a < 256 ^ endBytes k) (b-fits : b < 25
   pub of-verdict : (r : Range) → verdict (endsOf (rangeOf k a b)) r ≡ verdict (ends k a b) r
   of-verdict r =
       as-made (λ e. verdict e r)
-      (rw (verdict-on-is k (again k a) (again k b) r, verdict-on-is k a b r, alike-left k (again k a) a (again k b) low, alike-right k (again k b) b a high, alike-nan k (again k a) a low, alike-nan k (again k b) b high))
+      (rw (verdict-on-is k (again k a) (again k b) r, verdict-on-is k a b r, alike-left k (again k a) a (again k b) low, alike-right k (again k b) b a high, alike-nan k (again k a) a low, alike-nan k (again k b) b high, alike-infinite k (again k a) a low, alike-infinite k (again k b) b high))
 
   pub of-inside-left : (o : Ends) → inside (endsOf (rangeOf k a b)) o ≡ inside (ends k a b) o
   unfolding inside

@@ -19,9 +19,12 @@ pub enum Range {
     F64(f64, f64),
 }
 
-// The verdict on a range.
+// The verdict on a range: what its ends are, and whether they are in order. A stored range must be sound; a window's may
+// be infinite.
 pub enum Verdict {
     Sound(Range),
+    Infinite(Range),
+    InfiniteReversed,
     NotANumber,
     Reversed,
 }
@@ -104,23 +107,35 @@ impl Range {
         }
     }
 
-    // Sound, or an end is NaN, or else the minimum is above the maximum.
+    // A sound range is told first, with an early return: opening asks this of every box, and finds hardly any other.
     pub fn verdict(self) -> Verdict
         ensures { λ r. ⌜ r ≡ verdict (endsOf self) self ⌝ }
     {
         match self {
-            Range::I32(low, high) => verdict_on(self, order::i32_at_most(low, high), false),
-            Range::I64(low, high) => verdict_on(self, order::i64_at_most(low, high), false),
-            Range::F32(low, high) => verdict_on(
-                self,
-                order::f32_at_most(low, high),
-                order::f32_is_nan(low) || order::f32_is_nan(high),
-            ),
-            Range::F64(low, high) => verdict_on(
-                self,
-                order::f64_at_most(low, high),
-                order::f64_is_nan(low) || order::f64_is_nan(high),
-            ),
+            Range::I32(low, high) => finite_verdict(self, order::i32_at_most(low, high)),
+            Range::I64(low, high) => finite_verdict(self, order::i64_at_most(low, high)),
+            Range::F32(low, high) => {
+                if order::f32_finite_at_most(low, high) {
+                    return Verdict::Sound(self);
+                }
+                other_verdict(
+                    self,
+                    order::f32_at_most(low, high),
+                    order::f32_is_nan(low) || order::f32_is_nan(high),
+                    order::f32_is_infinite(low) || order::f32_is_infinite(high),
+                )
+            }
+            Range::F64(low, high) => {
+                if order::f64_finite_at_most(low, high) {
+                    return Verdict::Sound(self);
+                }
+                other_verdict(
+                    self,
+                    order::f64_at_most(low, high),
+                    order::f64_is_nan(low) || order::f64_is_nan(high),
+                    order::f64_is_infinite(low) || order::f64_is_infinite(high),
+                )
+            }
         }
     }
 
@@ -180,6 +195,8 @@ impl Verdict {
     {
         match self {
             Verdict::Sound(_) => Refusal::none(),
+            Verdict::Infinite(_) => Refusal::new(Refusal::INFINITE, place),
+            Verdict::InfiniteReversed => Refusal::new(Refusal::INFINITE, place),
             Verdict::NotANumber => Refusal::new(Refusal::NOT_A_NUMBER, place),
             Verdict::Reversed => Refusal::new(Refusal::REVERSED, place),
         }
@@ -191,6 +208,8 @@ impl Verdict {
     {
         match self {
             Verdict::Sound(_) => Refusal::none(),
+            Verdict::Infinite(_) => Refusal::none(),
+            Verdict::InfiniteReversed => Refusal::new(Refusal::REVERSED, place),
             Verdict::NotANumber => Refusal::new(Refusal::NOT_A_NUMBER, place),
             Verdict::Reversed => Refusal::new(Refusal::REVERSED, place),
         }
@@ -220,15 +239,29 @@ pub fn patterns_at(bytes: &[u8], at: usize, kind: Kind) -> Patterns
     }
 }
 
-// The verdict on a range whose ends are in order or not, of which one is NaN or not.
-fn verdict_on(range: Range, ordered: bool, nan: bool) -> Verdict
-    ensures { λ r. ⌜ r ≡ cond ordered (Verdict.Sound range) (cond nan Verdict.NotANumber Verdict.Reversed) ⌝ }
+// The verdict on a range of finite ends, in order or not.
+fn finite_verdict(range: Range, ordered: bool) -> Verdict
+    ensures { λ r. ⌜ r ≡ cond ordered (Verdict.Sound range) Verdict.Reversed ⌝ }
 {
     if ordered {
         return Verdict::Sound(range);
     }
+    Verdict::Reversed
+}
+
+// The verdict on a range that is not sound: one end is NaN or not, the ends are in order or not, one is infinite or not.
+fn other_verdict(range: Range, ordered: bool, nan: bool, infinite: bool) -> Verdict
+    ensures { λ r. ⌜ r ≡ cond nan Verdict.NotANumber
+        (cond ordered (Verdict.Infinite range) (cond infinite Verdict.InfiniteReversed Verdict.Reversed)) ⌝ }
+{
     if nan {
         return Verdict::NotANumber;
+    }
+    if ordered {
+        return Verdict::Infinite(range);
+    }
+    if infinite {
+        return Verdict::InfiniteReversed;
     }
     Verdict::Reversed
 }

@@ -2,3 +2,4 @@
 pub mod Passed
 pub mod Nested
 pub mod Rules
+pub mod Finite

@@ -63,11 +63,11 @@ module _ (d : Description) (n : ℕ) (body : List ℕ) where
   abbrev top : ℕ
   top = height (fanoutOf body) n
 
-  boxes-clear : (domain : List ℕ) → bodyRefusal d n domain body .number ≡ 0 → boxesRefusal d n body domain .number ≡ 0
+  pub boxes-clear : (domain : List ℕ) → bodyRefusal d n domain body .number ≡ 0 → boxesRefusal d n body domain .number ≡ 0
   unfolding bodyRefusal
   boxes-clear domain h = both-clear (shapeRefusal n (boxBytes d) body) (boxesRefusal d n body domain) h .1
 
-  level-clear : (domain : List ℕ) → boxesRefusal d n body domain .number ≡ 0 → (j : ℕ) → j < top
+  pub level-clear : (domain : List ℕ) → boxesRefusal d n body domain .number ≡ 0 → (j : ℕ) → j < top
       → levelRefusal d n body j .number ≡ 0
   unfolding boxesRefusal
   level-clear domain h j below =
@@ -76,7 +76,7 @@ module _ (d : Description) (n : ℕ) (body : List ℕ) where
       let all = both-clear (rootRefusal d n body domain) (each below-root 0 top) h .1 in
       rw here at (each-clear below-root 0 top all (top - suc j) (omega arith) (omega arith))
 
-  box-clear : (j k : ℕ) → k < boxes (fanoutOf body) n j → levelRefusal d n body j .number ≡ 0
+  pub box-clear : (j k : ℕ) → k < boxes (fanoutOf body) n j → levelRefusal d n body j .number ≡ 0
       → innerRefusal d n body j k .number ≡ 0
   unfolding levelRefusal
   box-clear j k there h =

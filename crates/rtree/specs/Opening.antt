@@ -19,7 +19,7 @@ use Rattle.rtree.specs.declared.Opened.{Opened}
 use Rattle.rtree.specs.Body.{fanoutOf, levelsOf, placeOf, boxAt, shapeRefusal}
 
 module _ (d : Description) (n : ℕ) (body : List ℕ) where
-  -- box k at distance j: its ranges (8, 9 per dimension), and then whether it lies inside another
+  -- box k at distance j: its ranges (8, 23, 9 per dimension), and then whether it lies inside another
   abbrev pub storedBox : List ℕ → ℕ → ℕ → ℕ → Refusal
   storedBox outer number j k =
       boxRefusal (d .kinds) (sidesOf (d .dimensions))

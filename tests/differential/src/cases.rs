@@ -70,6 +70,22 @@ fn nans(kind: u8) -> Vec<Vec<u8>> {
     }
 }
 
+/// Two ends for a float range of a box that starts here: infinite, NaN or neither, in any order.
+fn infinite_side(c: &mut Chance, kinds: &[u8], data: &mut [u8], start: usize) {
+    let floats: Vec<usize> = (0..kinds.len()).filter(|i| !nans(kinds[*i]).is_empty()).collect();
+    if floats.is_empty() {
+        return;
+    }
+    let side = c.of(&floats);
+    let mut at = start + kinds[..side].iter().map(|k| rules::width(*k)).sum::<usize>();
+    for _ in 0..2 {
+        let x = c.of(&[f64::INFINITY, f64::NEG_INFINITY, f64::NAN, 0.5, -0.5]);
+        let bytes = if kinds[side] == FLOAT32.number { (x as f32).to_le_bytes().to_vec() } else { x.to_le_bytes().to_vec() };
+        data[at..at + bytes.len()].copy_from_slice(&bytes);
+        at += bytes.len();
+    }
+}
+
 fn some_kind(c: &mut Chance) -> u8 {
     c.of(&KINDS).number
 }
@@ -194,11 +210,19 @@ fn tree(c: &mut Chance, d: &Description) -> Tree {
     let root = levels[0][0].clone();
     let mut body = (f as u32).to_le_bytes().to_vec();
     body.extend((levels.len() as u32).to_le_bytes());
+    let mut boxes = vec![];
     for level in &levels {
         body.extend((level.len() as u64).to_le_bytes());
         for b in level {
+            boxes.push(body.len());
             body.extend(bytes(c, &d.kinds, b));
         }
+    }
+    if c.one_in(8) {
+        // the root, a box near it, or any
+        let near = c.of(&[1, 3.min(boxes.len()), boxes.len()]);
+        let start = boxes[c.below(near as u64) as usize];
+        infinite_side(c, &d.kinds, &mut body, start);
     }
     Tree { body, tiles: n, root }
 }
@@ -245,7 +269,11 @@ fn footer(c: &mut Chance, d: &Description, tiles: u64, domain: &Box_) -> Foot {
     for _ in 0..2 {
         data.push(if bad(c) { c.of(&[1, 2, 255]) } else { 0 });
     }
+    let domain_start = data.len();
     data.extend(bytes(c, &d.kinds, domain));
+    if c.one_in(20) {
+        infinite_side(c, &d.kinds, &mut data, domain_start);
+    }
     data.extend(if bad(c) { c.of(&[0, limits::TILES.end() + 1, u64::MAX]) } else { tiles }.to_le_bytes());
     data.extend(if bad(c) { c.of(&[0u64, d.capacity + 1, u64::MAX]) } else { 1 + c.below(d.capacity) }.to_le_bytes());
     for _ in 0..2 {
@@ -540,6 +568,7 @@ pub enum Slip {
     RefusedTakesAPlace,
     AllRead,
     MissNotRead,
+    NoOpenWindow,
 }
 
 /// What a library with this slip would answer, where the slip has a say in the case.
@@ -555,6 +584,11 @@ pub fn wrong(case: &Case, slip: Slip) -> Option<(Vec<u64>, Vec<u32>)> {
             let fits = found.len().min(out.len());
             out[..fits].copy_from_slice(&found[..fits]);
             Some((vec![0, 0, found.len() as u64, looked], out))
+        }
+        (Case::Query { d, tiles, tree, kinds, ends, room }, Slip::NoOpenWindow) => {
+            rules::query(d, *tiles, tree, kinds, ends).ok()?;
+            let side = rules::window_of(kinds, ends).iter().position(|(low, high)| low.is_infinite() || high.is_infinite())?;
+            Some((vec![rules::refusal::INFINITE, side as u64, 0, 0], (0..*room as u32).map(|i| 0xdead_0000 + i).collect()))
         }
         (Case::Offsets { var: false, tiles, size, list, tile }, Slip::LastExtent) => {
             let (offset, extent) = rules::extent(&Ok(rules::offsets(*tiles, *size, list).ok()?), *size, *tile);

@@ -33,7 +33,8 @@ fn slips(seed: u64) {
     let refused_takes = |case: &Case| cases::wrong(case, cases::Slip::RefusedTakesAPlace);
     let all_read = |case: &Case| cases::wrong(case, cases::Slip::AllRead);
     let miss_not_read = |case: &Case| cases::wrong(case, cases::Slip::MissNotRead);
-    let all: [(&str, &dyn Fn(&Case) -> Option<(Vec<u64>, Vec<u32>)>); 11] = [
+    let no_open_window = |case: &Case| cases::wrong(case, cases::Slip::NoOpenWindow);
+    let all: [(&str, &dyn Fn(&Case) -> Option<(Vec<u64>, Vec<u32>)>); 12] = [
         ("strict comparison", &strict),
         ("int32 compared as unsigned", &unsigned),
         ("full rows only", &full_rows),
@@ -45,6 +46,7 @@ fn slips(seed: u64) {
         ("a refused window that takes a place", &refused_takes),
         ("a box test that reads every dimension", &all_read),
         ("the dimension that misses not told as read", &miss_not_read),
+        ("a window's infinity refused", &no_open_window),
     ];
     for (name, wrong) in all {
         let caught = (0..200_000).any(|i| {
@@ -120,7 +122,7 @@ fn main() {
         }
     }
     if first == 0 && inputs >= 100_000 {
-        for number in (0..=rules::refusal::SUM).chain([rules::refusal::RUNS]) {
+        for number in (0..=rules::refusal::SUM).chain([rules::refusal::RUNS, rules::refusal::INFINITE]) {
             assert!(tally.refusals.contains_key(&number), "no input was refused with {number}");
         }
         assert!(tally.guarded >= 5_000);

@@ -56,6 +56,7 @@ pub mod refusal {
     pub const WINDOW: u64 = 19;
     pub const SUM: u64 = 20;
     pub const RUNS: u64 = 22;
+    pub const INFINITE: u64 = 23;
 }
 
 #[derive(Clone, Copy, Debug, PartialEq)]
@@ -125,6 +126,14 @@ impl End {
         }
     }
 
+    pub fn is_infinite(self) -> bool {
+        match self {
+            End::Int(_) => false,
+            End::Single(x) => x.is_infinite(),
+            End::Double(x) => x.is_infinite(),
+        }
+    }
+
     pub fn at_most(self, other: End) -> bool {
         match (self, other) {
             (End::Int(a), End::Int(b)) => a <= b,
@@ -151,6 +160,9 @@ fn check_ranges(kinds: &[u8], data: &[u8], mut at: usize) -> Answer<()> {
     for (kind, (low, high)) in kinds.iter().zip(stored_box(kinds, data, at)) {
         if low.is_nan() || high.is_nan() {
             return refuse(refusal::NOT_A_NUMBER, at);
+        }
+        if low.is_infinite() || high.is_infinite() {
+            return refuse(refusal::INFINITE, at);
         }
         if !low.at_most(high) {
             return refuse(refusal::REVERSED, at);

@@ -9,7 +9,7 @@ use borrow.Author.Tests.{eq-eqb, ne-eqb}
 use Rattle.answers.proofs.Checks.{past-check, stop-check}
 use Rattle.answers.specs.Checks.{first}
 use Rattle.ranges.specs.declared.Verdict.{Verdict}
-use Rattle.ranges.specs.declared.Verdict.the-variants.{Sound, NotANumber, Reversed}
+use Rattle.ranges.specs.declared.Verdict.the-variants.{Sound, Infinite, InfiniteReversed, NotANumber, Reversed}
 use Rattle.description.specs.Kinds.{datatype}
 use Rattle.ranges.specs.Ranges.{endsOf, verdict, askedRefusal}
 use Rattle.boxes.specs.Windows.{sideRefusal}
@@ -20,6 +20,8 @@ use Rattle.boxes.proofs.check_side.Tie as tie
 alone : (j : Verdict) (place : ℕ) → first (askedRefusal j place ∷ []) ≡ askedRefusal j place
 unfolding first
 alone (Sound r) place = refl
+alone (Infinite r) place = refl
+alone InfiniteReversed place = refl
 alone NotANumber place = refl
 alone Reversed place = refl
 

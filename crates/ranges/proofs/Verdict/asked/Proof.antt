@@ -5,11 +5,14 @@ use Rattle.ranges.proofs.Judging.{when-known}
 use Rattle.ranges.proofs.Verdict.asked.Statement.{statement}
 use Rattle.ranges.proofs.Verdict.asked.Tie as tie
 
-returns-2 : tie.Need-returns-2
-returns-2 c = when-known (λ v. askedRefusal v (c .before .before .before .args .place)) (c .before .enum-told2 .given .1) (c .new .ensures)
-
 returns-3 : tie.Need-returns-3
-returns-3 c = when-known (λ v. askedRefusal v (c .before .before .before .args .place)) (c .before .enum-told3 .given .1) (c .new2 .ensures)
+returns-3 c = when-known (λ v. askedRefusal v (c .before .before .before .args .place)) (c .before .enum-told3 .given .1) (c .new .ensures)
+
+returns-4 : tie.Need-returns-4
+returns-4 c = when-known (λ v. askedRefusal v (c .before .before .before .args .place)) (c .before .enum-told4 .given .1) (c .new2 .ensures)
+
+returns-5 : tie.Need-returns-5
+returns-5 c = when-known (λ v. askedRefusal v (c .before .before .before .args .place)) (c .before .enum-told5 .given .1) (c .new3 .ensures)
 
 pub asked-spec : {M : Type 1} → statement M
 asked-spec =
@@ -22,5 +25,11 @@ asked-spec =
     (λ c. search needs)
     (λ c κs. search needs)
     (λ c. search needs)
-    returns-2
-    returns-3)
+    (λ c κs. search needs)
+    (λ c. search needs)
+    (λ c κs. search needs)
+    (λ c. search needs)
+    (λ c. search needs)
+    returns-3
+    returns-4
+    returns-5)

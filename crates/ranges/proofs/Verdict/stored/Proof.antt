@@ -11,6 +11,12 @@ returns-2 c = when-known (λ v. storedRefusal v (c .before .before .before .args
 returns-3 : tie.Need-returns-3
 returns-3 c = when-known (λ v. storedRefusal v (c .before .before .before .args .place)) (c .before .enum-told3 .given .1) (c .new2 .ensures)
 
+returns-4 : tie.Need-returns-4
+returns-4 c = when-known (λ v. storedRefusal v (c .before .before .before .args .place)) (c .before .enum-told4 .given .1) (c .new3 .ensures)
+
+returns-5 : tie.Need-returns-5
+returns-5 c = when-known (λ v. storedRefusal v (c .before .before .before .args .place)) (c .before .enum-told5 .given .1) (c .new4 .ensures)
+
 pub stored-spec : {M : Type 1} → statement M
 stored-spec =
     tie.close
@@ -22,5 +28,11 @@ stored-spec =
     (λ c. search needs)
     (λ c κs. search needs)
     (λ c. search needs)
+    (λ c κs. search needs)
+    (λ c. search needs)
+    (λ c κs. search needs)
+    (λ c. search needs)
     returns-2
-    returns-3)
+    returns-3
+    returns-4
+    returns-5)
