@@ -12,7 +12,7 @@ import textwrap
 
 PEERS = {"rust": "plain Rust", "boost": "Boost.Geometry", "libspatialindex": "libspatialindex"}
 COLOURS = {"ours": "#1d4ed8", "rust": "#d97706", "boost": "#047857", "libspatialindex": "#7c3aed"}
-KINDS = ["int32", "int64", "float32", "float64", "mix"]
+KINDS = ["int32", "int64", "float32", "float64", "uint64", "mix"]
 FANOUTS = ["2", "10", "16", "1024"]
 
 
@@ -189,8 +189,8 @@ def page(tables, ratios):
         """)
     how = prose(f"""
         - **Data.** Random hits in a cube of 1 to 4 dimensions, sorted along a Morton curve and cut into n tiles of 8 hits. Boxes have
-          coordinates on a grid of 2^20 steps a dimension, which each kind holds exactly; floats are in quarters. `mix` is float64, int32,
-          float32 and int64, as many of them as there are dimensions.
+          coordinates on a grid of 2^20 steps a dimension, which each kind holds exactly; floats are in quarters, and uint64 counts from the grid's first step. `mix` is
+          float64, int32, float32 and int64, as many of them as there are dimensions.
 
         - **Windows.** {run["small windows"]} small ones, each 4 / n of the cube, so many that no branch predictor learns them by heart;
           {run["large windows"]} large ones, each a tenth of the cube. A time is the mean over all windows of a size.

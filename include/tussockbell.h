@@ -37,6 +37,7 @@ extern "C" {
 #define TUSSOCKBELL_INT64 1
 #define TUSSOCKBELL_FLOAT32 2
 #define TUSSOCKBELL_FLOAT64 3
+#define TUSSOCKBELL_UINT64 10
 
 /* Limits: the least and the most of each number that has them. */
 #define TUSSOCKBELL_LEAST_DIMENSIONS 1

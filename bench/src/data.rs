@@ -80,11 +80,13 @@ pub fn windows(dimensions: usize, part: f64, number: usize) -> Vec<Cells> {
     (0..number).map(|_| (0..dimensions).map(|_| range()).collect()).collect()
 }
 
-/// A place on the grid as a number of a kind: whole for integers, in quarters for floats, exact in each of them.
+/// A place on the grid as a number of a kind: whole for integers, of uint64 counted from the grid's first place, in quarters for floats;
+/// exact in each of them.
 fn number(kind: Kind, place: i32) -> f64 {
     match kind {
         Kind::Int32 | Kind::Int64 => place as f64,
         Kind::Float32 | Kind::Float64 => place as f64 * 0.25,
+        Kind::Uint64 => place as f64 + f64::from(1 << (BITS - 1)),
     }
 }
 
@@ -106,6 +108,7 @@ pub fn bytes(kinds: &[Kind], cells: &Cells) -> Vec<u8> {
                 Kind::Int64 => made.extend((x as i64).to_le_bytes()),
                 Kind::Float32 => made.extend((x as f32).to_le_bytes()),
                 Kind::Float64 => made.extend(x.to_le_bytes()),
+                Kind::Uint64 => made.extend((x as u64).to_le_bytes()),
             }
         }
     }

@@ -95,6 +95,7 @@ fn described(kinds: &[Kind]) -> &'static str {
         Kind::Int64 => "int64",
         Kind::Float32 => "float32",
         Kind::Float64 => "float64",
+        Kind::Uint64 => "uint64",
     }
 }
 

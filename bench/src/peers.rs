@@ -36,6 +36,7 @@ unsafe extern "C" {
     fn boost_make_int64(d: usize, capacity: usize, ends: *const f64, boxes: usize, window_ends: *const f64, windows: usize) -> *mut c_void;
     fn boost_make_float32(d: usize, capacity: usize, ends: *const f64, boxes: usize, window_ends: *const f64, windows: usize) -> *mut c_void;
     fn boost_make_float64(d: usize, capacity: usize, ends: *const f64, boxes: usize, window_ends: *const f64, windows: usize) -> *mut c_void;
+    fn boost_make_uint64(d: usize, capacity: usize, ends: *const f64, boxes: usize, window_ends: *const f64, windows: usize) -> *mut c_void;
     fn boost_query(tree: *const c_void, window: usize, out: *mut u32) -> usize;
     fn boost_free(tree: *mut c_void);
     fn spatialindex_make(d: usize, capacity: usize, ends: *const f64, boxes: usize, window_ends: *const f64, windows: usize) -> *mut c_void;
@@ -134,6 +135,7 @@ impl Peer {
                 Kind::Int64 => boost_make_int64,
                 Kind::Float32 => boost_make_float32,
                 Kind::Float64 => boost_make_float64,
+                Kind::Uint64 => boost_make_uint64,
             }
         };
         let one = |name, capacity, make: Make, query: Query, free: Free| {

@@ -8,6 +8,7 @@ pub enum Kind {
     Int64 = 1,
     Float32 = 2,
     Float64 = 3,
+    Uint64 = 10,
 }
 
 /// Least and most.
@@ -145,10 +146,11 @@ number! {
     i64: |low, high| low <= high, |_| false;
     f32: |low, high| f32::NEG_INFINITY < low && low <= high && high < f32::INFINITY, f32::is_infinite;
     f64: |low, high| f64::NEG_INFINITY < low && low <= high && high < f64::INFINITY, f64::is_infinite;
+    u64: |low, high| low <= high, |_| false;
 }
 
 impl Kind {
-    pub const ALL: [Kind; 4] = [Kind::Int32, Kind::Int64, Kind::Float32, Kind::Float64];
+    pub const ALL: [Kind; 5] = [Kind::Int32, Kind::Int64, Kind::Float32, Kind::Float64, Kind::Uint64];
 
     fn of(number: u8) -> Option<Kind> {
         match number {
@@ -156,6 +158,7 @@ impl Kind {
             k if k == Kind::Int64 as u8 => Some(Kind::Int64),
             k if k == Kind::Float32 as u8 => Some(Kind::Float32),
             k if k == Kind::Float64 as u8 => Some(Kind::Float64),
+            k if k == Kind::Uint64 as u8 => Some(Kind::Uint64),
             _ => None,
         }
     }
@@ -171,6 +174,7 @@ impl Kind {
             Kind::Int64 => one::<i64>(inner, outer),
             Kind::Float32 => one::<f32>(inner, outer),
             Kind::Float64 => one::<f64>(inner, outer),
+            Kind::Uint64 => one::<u64>(inner, outer),
         }
     }
 
@@ -180,6 +184,7 @@ impl Kind {
             Kind::Int64 => 16,
             Kind::Float32 => 8,
             Kind::Float64 => 16,
+            Kind::Uint64 => 16,
         }
     }
 }
@@ -190,6 +195,7 @@ enum Range {
     Int64(Ends<i64>),
     Float32(Ends<f32>),
     Float64(Ends<f64>),
+    Uint64(Ends<u64>),
 }
 
 impl Range {
@@ -201,6 +207,7 @@ impl Range {
             Kind::Int64 => Range::Int64(Number::ends(bytes)),
             Kind::Float32 => Range::Float32(Number::ends(bytes)),
             Kind::Float64 => Range::Float64(Number::ends(bytes)),
+            Kind::Uint64 => Range::Uint64(Number::ends(bytes)),
         }
     }
 
@@ -210,6 +217,7 @@ impl Range {
             Range::Int64(_) => Kind::Int64.range_bytes(),
             Range::Float32(_) => Kind::Float32.range_bytes(),
             Range::Float64(_) => Kind::Float64.range_bytes(),
+            Range::Uint64(_) => Kind::Uint64.range_bytes(),
         }
     }
 
@@ -219,6 +227,7 @@ impl Range {
             Range::Int64(ends) => ends.fault(),
             Range::Float32(ends) => ends.fault(),
             Range::Float64(ends) => ends.fault(),
+            Range::Uint64(ends) => ends.fault(),
         }
     }
 
@@ -228,6 +237,7 @@ impl Range {
             Range::Int64(ends) => ends.stored_fault(),
             Range::Float32(ends) => ends.stored_fault(),
             Range::Float64(ends) => ends.stored_fault(),
+            Range::Uint64(ends) => ends.stored_fault(),
         }
     }
 
@@ -238,6 +248,7 @@ impl Range {
             Range::Int64(ends) => Number::ends(bytes).meets(ends),
             Range::Float32(ends) => Number::ends(bytes).meets(ends),
             Range::Float64(ends) => Number::ends(bytes).meets(ends),
+            Range::Uint64(ends) => Number::ends(bytes).meets(ends),
         }
     }
 }

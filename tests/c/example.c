@@ -93,6 +93,21 @@ static void box_test(size_t length, int32_t first, int32_t second)
     show("box test", answer, TUSSOCKBELL_BOX_TEST_PLACES);
 }
 
+/* Asks a tree of one tile, whose ids go from 2^63 - 1 to 2^64 - 1. */
+static void channels(uint8_t window_kind, uint64_t low, uint64_t high)
+{
+    static const uint8_t kind[1] = {TUSSOCKBELL_UINT64};
+    uint8_t tree[32];
+    uint8_t ends[16];
+    uint64_t answer[TUSSOCKBELL_QUERY_PLACES];
+    size_t length = put(tree, put(tree, put(tree, 0, 2, 4), 1, 4), 1, 8);
+    length = put(tree, put(tree, length, UINT64_MAX / 2, 8), UINT64_MAX, 8);
+    put(ends, put(ends, 0, low, 8), high, 8);
+    tussockbell_query(kind, 1, 1, 32, 1, tree, length, &window_kind, 1, ends, sizeof ends, NULL, 0, answer);
+    printf("[%" PRIu64 ", %" PRIu64 "] ", low, high);
+    show("channels", answer, TUSSOCKBELL_QUERY_PLACES);
+}
+
 int main(void)
 {
     uint8_t tree[80];
@@ -123,6 +138,11 @@ int main(void)
     box_test(16, 5, 15);
     box_test(15, 5, 15);
     box_test(15, 5, 20);
+    channels(TUSSOCKBELL_UINT64, 0, UINT64_MAX / 2 - 1);
+    channels(TUSSOCKBELL_UINT64, 0, UINT64_MAX / 2);
+    channels(TUSSOCKBELL_UINT64, UINT64_MAX / 2 + 1, UINT64_MAX - 1);
+    channels(TUSSOCKBELL_UINT64, UINT64_MAX / 2 + 1, 0);
+    channels(TUSSOCKBELL_INT64, 0, 1);
 
     uint8_t footer[256];
     size_t footer_length = footer_bytes(footer);

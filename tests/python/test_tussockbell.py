@@ -35,7 +35,7 @@ SAMPLE = {name: (root / "tests/fixtures/sample" / name).read_bytes() for name in
 SAMPLE_SIZE, SAMPLE_DATA_SIZE = 1166, 300
 ONE = tb.Description(["int32"], fields=1, capacity=32)
 NUMBERS = [f.name for f in dataclasses.fields(tb.Footer) if not f.name.startswith("_")]
-NO_KINDS = ["int8", "Int32", "", 7, 300, -1, 10**30, 1.5, None, [], b"int32"]
+NO_KINDS = ["int8", "uint32", "Int32", "", 4, 7, 9, 11, 300, -1, 10**30, 1.5, None, [], b"int32", int, object()]
 BAD_KINDS = [[], ["int32"] * 5, ["int32"] * 300, "int32"] + [[kind] for kind in NO_KINDS] + [["int32", "int"]]
 BAD_DESCRIPTIONS = [tb.Description(kinds, 1, 32) for kinds in BAD_KINDS]
 BAD_DESCRIPTIONS += [tb.Description(["int32"], fields, 32) for fields in (0, 65, -1, 2**70, MOST, 2**64 + 1)]
@@ -98,7 +98,7 @@ class Fragment:
         self.sizes = pieces.entries(extents)
 
     def near(self, kind, middle, width=25):
-        low = middle + self.chance.randrange(-30, 30)
+        low = pieces.origin(kind) + middle + self.chance.randrange(-30, 30)
         high = low + self.chance.randrange(0, width)
         return (low, high) if rules.KINDS[kind].whole else (low / 4, high / 4)
 
@@ -123,7 +123,7 @@ class Fragment:
         if way == 0:
             return (high + 1, low), kind, (high + 1, low)
         if way == 1:
-            given = [5, None, (1,), (1, 2, 3), (low, b"123"), (1.5 if whole else b"", high), (low, 2**63 if whole else b"")]
+            given = [5, None, (1,), (1, 2, 3), (low, b"123"), (1.5 if whole else b"", high), (low, 2**64 if whole else b"")]
             return self.chance.choice(given), "none", (0, 0)
         if way < 5 and not whole:
             nan, inf = math.nan, math.inf
@@ -132,7 +132,8 @@ class Fragment:
         numbers = tuple(struct.unpack(rules.KINDS[kind].format, p)[0] for p in patterns)
         if way < 9:
             return patterns, kind, numbers
-        return ((float(low), float(high)) if way < 12 else (low, high)), kind, numbers
+        exact = (float(low), float(high)) == (low, high)
+        return ((float(low), float(high)) if way < 12 and exact else (low, high)), kind, numbers
 
     @staticmethod
     def pattern(kind, x):
@@ -214,7 +215,7 @@ class Same(unittest.TestCase):
 class Fixtures(Same):
     def test_fixtures(self):
         folders = [folder for folder in sorted((root / "tests/fixtures").iterdir()) if (folder / "about").exists()]
-        self.assertEqual(len(folders), 8)
+        self.assertEqual(len(folders), 9)
         for folder in folders:
             kinds, fields, capacity, file_size, size = (folder / "about").read_text().splitlines()
             kinds, file_size, size = kinds.split(), int(file_size), int(size)
@@ -296,14 +297,16 @@ class Generated(Same):
 
     def test_first_miss(self):
         for kind, known in rules.KINDS.items():
-            ends = [(20, 30), (-30, -20)] + [(math.nan, 5), (5, math.nan)] * (not known.whole)
+            zero = pieces.origin(kind)
+            above, below = (zero + 20, zero + 30), (zero - 30, zero - 20)
+            ends = [above, below] + [(math.nan, 5), (5, math.nan)] * (not known.whole)
             for dimensions in range(1, 5):
-                d, window = tb.Description([kind] * dimensions, 1, 32), [(0, 10)] * dimensions
-                met = [(10, 12)] * dimensions
+                d, window = tb.Description([kind] * dimensions, 1, 32), [(zero, zero + 10)] * dimensions
+                met = [(zero + 10, zero + 12)] * dimensions
                 self.assertEqual(tb.box_test(d, pieces.box(d.kinds, met), window), (True, dimensions))
                 for miss in range(dimensions):
                     for end in ends:
-                        for rest in ((0, 1), (20, 30)):
+                        for rest in ((zero, zero + 1), above):
                             sides = met[:miss] + [end] + [rest] * (dimensions - miss - 1)
                             self.assertEqual(tb.box_test(d, pieces.box(d.kinds, sides), window), (False, miss + 1))
 
@@ -391,7 +394,7 @@ class Batches(Same):
                 hits += sum(bool(one[0]) for one in expected if isinstance(one, tb.Hit))
             body, n = f.damaged(f.tree), f.n + chance.choice((0, 0, 0, 1))
             self.same_batch(lambda given, room: tb.query_batch(f.given, n, body, given, room), f.known, n, body, windows, None)
-        self.assertGreater(hits, 1500)
+        self.assertGreater(hits, 1400)
         self.assertLessEqual({2, 8, 9, 14, 19}, self.refusals)
 
     def sound(self, chance, f, count):
@@ -564,6 +567,50 @@ class Windows(unittest.TestCase):
             not_held = [most + 1, -most - 2, 2**70, 1.5, math.nan, math.inf, -math.inf, 1e300, Fraction(1, 3)]
             for end in not_held + [Decimal(x) for x in ("1.5", "NaN", "sNaN", "Infinity")]:
                 self.assertIsNone(pattern(kind, end), msg=end)
+
+    def test_unsigned_ends(self):
+        for end in (0, 1, 2**63 - 1, 2**63, MOST, True, 5.0, -0.0, 2.0**63, Decimal(MOST), Fraction(8)):
+            self.assertEqual(pattern("uint64", end), int(end).to_bytes(8, "little"))
+        for end in (-1, -(2**63), MOST + 1, 2.0**64, -1.0, 1.5, math.nan, math.inf, -math.inf, Fraction(1, 3), Decimal("1.5"), Decimal("NaN")):
+            self.assertIsNone(pattern("uint64", end), msg=end)
+
+    def test_unsigned_order(self):
+        half, given = 2**63, tb.Description(["uint64"], 1, 32)
+        known = rules.Description(["uint64"], 1, 32)
+        boxes = [[(0, 4)], [(half - 4, half - 1)], [(half - 1, half)], [(half, half + 4)], [(MOST - 1, MOST)]]
+        body, footer = pieces.tree(["uint64"], boxes, 2), pieces.Footer(known, [(0, MOST)], tiles=5)
+        tree = tb.open_tree(given, footer.file_size, footer.data(), body)
+        self.assertEqual(tb.read_footer(given, footer.file_size, footer.data()).domain, ((0, MOST),))
+        for window, tiles in (
+            ((0, MOST), [0, 1, 2, 3, 4]), ((half, MOST), [2, 3, 4]), ((0, half - 1), [0, 1, 2]), ((half - 1, half), [1, 2, 3]),
+            ((half, half), [2, 3]), ((MOST, MOST), [4]), ((half + 5, MOST - 2), []), ((5, 5), []),
+        ):
+            self.assertEqual(tree.query([window]).tiles, tiles)
+            self.assertEqual(tree.query([window]), expected_hit(known, 5, body, ["uint64"], [window]))
+        for window in ((half, half - 1), (MOST, 0)):
+            self.assertEqual(outcome(tree.query, [window]), ("refused", 9, 0, 0))
+        for window in ((-1, 0), (0, MOST + 1)):
+            self.assertEqual(outcome(tree.query, [window]), ("refused", 19, 0, 0))
+        self.assertEqual(outcome(tree.query, tb.Window(["int64"], [(0, 1)])), ("refused", 19, 0, 0))
+        signed = tb.Description(["int64"], 1, 32)
+        self.assertEqual(outcome(tb.query, signed, 5, body, tb.Window(["uint64"], [(0, 1)])), ("refused", 19, 0, 0))
+
+    def test_types_as_kinds(self):
+        """numpy's types, and its dtypes, are kinds by their names. numpy itself is not needed here: these look as its own do."""
+
+        class DType:
+            def __init__(self, name):
+                self.name = name
+
+        def ask(kind):
+            window = tb.Window([kind], [(0, 1)])
+            return window._kinds, window._ends, tb.Description([kind], 1, 32)._given[0]
+
+        for name in rules.KINDS:
+            for kind in (DType(name), type(name, (), {}), type(name, (float,), {})):
+                self.assertEqual(ask(kind), ask(name))
+        for kind in (DType("uint32"), DType(7), DType(None), DType([]), type("str", (), {}), DType):
+            self.assertEqual(ask(kind), ask("no kind"))
 
     def test_float_ends(self):
         for kind in ("float32", "float64"):

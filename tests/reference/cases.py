@@ -21,6 +21,7 @@ INFINITE = {
     for kind, nan in (("float32", NAN32), ("float64", NAN64))
 }
 MOST = 2**64 - 1
+HALF = 2**63
 # What the program reads.
 SPACE = 524_288
 MOST_DIMENSIONS, MOST_FIELDS, MOST_CAPACITY, MOST_TILES, MOST_FANOUT = (
@@ -79,6 +80,7 @@ def footer_cases(cases):
     two = Description(["int32", "int32"], 1, 32)
     mixed = Description(["int32", "float64", "int64", "float32"], 2, 1000)
     many = Description(["float32"], MOST_FIELDS, MOST_CAPACITY)
+    unsigned = Description(["uint64", "int64", "uint64"], 1, 32)
     zero = [(-5, 24)]
 
     def ask(d, data, file_size, tile=0):
@@ -103,6 +105,8 @@ def footer_cases(cases):
         for tile in (0, tiles - 1, tiles):
             ask(one, f.data(), f.file_size, tile)
     ask_changed(mixed, [(0, 24), (-1.5, 1.7976931348623157e308), (-(2**63), 2**63 - 1), (0.0, -0.0)])
+    for domain in ((0, MOST), (HALF - 1, HALF), (HALF, HALF), (MOST, MOST), (0, 0)):
+        ask_changed(unsigned, [domain, (-1, 0), domain])
     f = pieces.Footer(many, [(-3.4028234663852886e38, 0.5)], name=b"\0" * 255)
     ask(many, f.data(), f.file_size, 2)
     for d, f in ((two, worked), (many, f)):
@@ -149,6 +153,9 @@ def footer_cases(cases):
     ask_changed(one, [(1, 0)])
     ask_changed(one, [(0, -1)])
     ask_changed(Description(["int64"], 1, 32), [(0, -(2**63))])
+    for domain in ((HALF, HALF - 1), (MOST, 0), (MOST, HALF), (1, 0)):
+        ask_changed(unsigned, [domain, (0, 0), (0, 0)])
+        ask_changed(unsigned, [(0, 0), (0, 0), domain])
 
     # 23: after 8 and before 9, both widths, in each dimension; an infinity of the first before the second's fault, and after the first's
     for kind in INFINITE:
@@ -253,6 +260,11 @@ def window_bytes(kinds, window, dimensions=None):
         else:
             row += [KINDS["float32"].number, pattern("float32", NAN32), pattern("float32", NAN32)]
     return b"".join(map(u64, row))
+
+
+def near(kind, low, high):
+    """A range of small numbers of a kind."""
+    return pieces.origin(kind) + low, pieces.origin(kind) + high
 
 
 def numbers_of(kinds, window):
@@ -446,15 +458,41 @@ def tree_cases(cases):
     ask(one, 3, b"", ["int32"], [(1, 0)])
     ask(one, 3, b"", ["int32"], [(0, 1)])
 
+    # uint64, on both sides of 2^63: domain, root, inner boxes, leaves and window
+    wide = Description(["uint64"], 1, 32)
+    boxes = [[(0, 4)], [(HALF - 4, HALF - 1)], [(HALF - 1, HALF)], [(HALF, HALF + 4)], [(MOST - 1, MOST)]]
+    body = pieces.tree(["uint64"], boxes, 2)
+    foot = pieces.Footer(wide, [(0, MOST)], tiles=5)
+    for domain in ((0, MOST), (1, MOST), (0, MOST - 1), (HALF, MOST), (0, HALF), (HALF - 1, HALF)):
+        ask_open(wide, pieces.Footer(wide, [domain], tiles=5), body)
+    _, counts, starts = rules.check_shape(wide, 5, body)
+    for start, count in zip(starts, counts):
+        for at in range(start, start + 16 * count, 16):
+            for side in ((HALF, HALF - 1), (HALF - 1, HALF)):
+                ask_open(wide, foot, body[:at] + pieces.box(["uint64"], [side]) + body[at + 16 :])
+    for window in (
+        (0, MOST), (0, 0), (0, HALF - 1), (HALF, MOST), (HALF - 1, HALF), (HALF - 1, HALF - 1), (HALF, HALF), (MOST, MOST),
+        (5, HALF - 5), (HALF + 5, MOST - 2), (MOST - 2, MOST), (HALF, HALF - 1), (MOST, 0), (MOST, HALF),
+    ):
+        ask(wide, 5, body, ["uint64"], [window])
+        ask_opened(wide, foot, body, ["uint64"], [window])
+    # int64 and uint64 are different kinds, either way round, and a kind that differs comes before a range that is reversed
+    signed = Description(["int64"], 1, 32)
+    for side in ((0, 1), (1, 0)):
+        ask(wide, 5, body, ["int64"], [side])
+        ask(signed, 5, body, ["uint64"], [side])
+        ask(wide, 5, body, ["float64"], [side])
+
     # short last rows, all kinds, infinities
-    for kinds in (["int32"], ["int64"], ["float32"], ["float64"], ["int32", "int64", "float32", "float64"]):
+    alone, mix = [[kind] for kind in KINDS], [["int32", "int64", "float32", "float64"], ["uint64", "int64"]]
+    for kinds in alone + mix:
         d = Description(kinds, 1, 32)
         for n, f in ((1, 2), (2, 2), (7, 3), (10, 10), (11, 10)):
-            leaves = [[(i - 3, i - 2) if KINDS[k].whole else (i - 3.5, i - 1.5) for k in kinds] for i in range(n)]
+            leaves = [[near(k, i - 3, i - 2) if KINDS[k].whole else (i - 3.5, i - 1.5) for k in kinds] for i in range(n)]
             b = pieces.tree(kinds, leaves, f)
-            ask_open(d, pieces.Footer(d, [(-9, 99)] * len(kinds), tiles=n), b)
+            ask_open(d, pieces.Footer(d, [near(k, -9, 99) for k in kinds], tiles=n), b)
             for low, high in ((-1, 1), (n - 3, n - 3), (-99, 99), (n + 9, n + 9)):
-                ask(d, n, b, kinds, [(low, high)] * len(kinds))
+                ask(d, n, b, kinds, [near(k, low, high) for k in kinds])
 
 
 def box_test_cases(cases):
@@ -471,16 +509,21 @@ def box_test_cases(cases):
             answer = [r.number, r.place, 0, 0]
         cases.add(10, d, [], box, window_bytes(kinds, window, dimensions), text(answer))
 
-    mixes = [["int32", "float64", "int64", "float32"], ["float32", "int64"], ["float64", "int32", "float32"]]
+    def box(kinds, sides):
+        return pieces.box(kinds, [near(kind, *side) for kind, side in zip(kinds, sides)])
+
+    mixes = [["int32", "float64", "int64", "float32"], ["float32", "int64"], ["float64", "int32", "float32"], ["uint64", "int64"]]
     for kinds in [[kind] * n for kind in KINDS for n in range(1, MOST_DIMENSIONS + 1)] + mixes:
-        d, window = Description(kinds, 1, 32), [(-4, 9)] * len(kinds)
-        ask(d, pieces.box(kinds, [(-7, -4)] * len(kinds)), kinds, window)
+        d, window = Description(kinds, 1, 32), [near(kind, -4, 9) for kind in kinds]
+        ask(d, box(kinds, [(-7, -4)] * len(kinds)), kinds, window)
         for first in range(len(kinds)):
             sides = [(9, 20)] * first + [(-9, -5)] + [(10, 11)] * (len(kinds) - first - 1)
-            ask(d, pieces.box(kinds, sides), kinds, window)
-            for sides in ([(NAN32 if kinds[first] == "float32" else NAN64, 3), (3, NAN32 if kinds[first] == "float32" else NAN64)]):
-                if not KINDS[kinds[first]].whole:
-                    ask(d, pieces.box(kinds, [(0, 1)] * first + [sides] + [(0, 1)] * (len(kinds) - first - 1)), kinds, window)
+            ask(d, box(kinds, sides), kinds, window)
+            nan = NAN32 if kinds[first] == "float32" else NAN64
+            for ends in [(nan, 3), (3, nan)] if not KINDS[kinds[first]].whole else []:
+                sides = [near(kind, 0, 1) for kind in kinds]
+                sides[first] = ends
+                ask(d, pieces.box(kinds, sides), kinds, window)
     # a reversed stored range goes by the formula
     two = Description(["int32", "int64"], 1, 32)
     good, window = pieces.box(two.kinds, [(0, 4), (10, 14)]), [(4, 4), (10, 14)]

@@ -3,8 +3,8 @@
     fixtures.py DIR     writes a folder a fixture below DIR
 
 Each folder has `footer`, `tree`, `offsets` and `sizes`; `about`: the kinds, N, C, the size of the metadata file and that of the data file,
-a line each; and `answers`: a line a window, its ends and then the tiles found, the looked-at number, the flat count. Where all kinds are integers
-it also has a `description` as the report reads it, and what the report says (`report`).
+a line each; and `answers`: a line a window, its ends and then the tiles found, the looked-at number, the flat count. Where all kinds are int32 or
+int64 it also has a `description` as the report reads it, and what the report says (`report`).
 """
 
 import pathlib
@@ -24,6 +24,7 @@ def leaves(kinds, n, chance):
         box = []
         for position, kind in enumerate(kinds):
             low = 10 * i - 40 if position == 0 else chance.randrange(-500, 500)
+            low += pieces.origin(kind)
             high = low + chance.randrange(0, 12)
             box.append((low, high) if rules.KINDS[kind].whole else (low / 4, high / 4))
         made.append(box)
@@ -58,7 +59,7 @@ def write(folder, name, version, kinds, n, f, fields, chance):
         lines.append(f"{ends}\t{' '.join(map(str, found))}\t{looked}\t{count}\n")
     (place / "answers").write_text("".join(lines))
     (place / "about").write_text(f"{' '.join(kinds)}\n{fields}\n{d.capacity}\n{foot.file_size}\n{sum(extents)}\n")
-    if all(rules.KINDS[kind].whole for kind in kinds):
+    if all(kind in ("int32", "int64") for kind in kinds):
         numbers = [len(kinds)] + [4 * rules.KINDS[k].range_bytes for k in kinds] + [fields, d.capacity, foot.file_size, sum(extents)]
         numbers += [x for pair in window for x in pair]
         text = "".join(f"{x}\n" for x in numbers).encode()
@@ -93,6 +94,7 @@ def main():
     write(folder, "float64", 21, ["float64", "float64"], 12, 5, 1, chance)
     write(folder, "mixed", 21, ["int32", "float64", "int64", "float32"], 10, 4, 2, chance)
     write(folder, "wide_fanout", 21, ["int32"], 40, 1024, 1, chance)
+    write(folder, "uint64", 21, ["uint64", "int64", "float32"], 8, 3, 1, chance)
 
 
 if __name__ == "__main__":

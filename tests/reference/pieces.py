@@ -18,6 +18,11 @@ def end(kind, x):
     return x if isinstance(x, bytes) else struct.pack(rules.KINDS[kind].format, x)
 
 
+def origin(kind):
+    """Where the small numbers of a kind are counted from: of uint64 from 2^63, the first that a signed number can't hold."""
+    return 2**63 if kind == "uint64" else 0
+
+
 def box(kinds, ranges):
     return b"".join(end(k, low) + end(k, high) for k, (low, high) in zip(kinds, ranges))
 

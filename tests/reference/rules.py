@@ -22,6 +22,7 @@ KINDS = {
     "int64": Kind(1, 16, "<q", True),
     "float32": Kind(2, 8, "<f", False),
     "float64": Kind(3, 16, "<d", False),
+    "uint64": Kind(10, 16, "<Q", True),
 }
 
 # Least and most.

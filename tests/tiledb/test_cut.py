@@ -39,7 +39,8 @@ class Cutting(unittest.TestCase):
             n = struct.unpack_from("<Q", offsets)[0]
             for compressed in (False, True):
                 for largest in (65536, 50):
-                    foot = pieces.Footer(d, [(-10**6, 10**6)] * len(d.kinds), tiles=n)
+                    middles = [pieces.origin(kind) for kind in d.kinds]
+                    foot = pieces.Footer(d, [(middle - 10**6, middle + 10**6) for middle in middles], tiles=n)
                     data = metadata_file(d, foot, tree, [offsets] * d.fields, compressed, largest)
                     got = cut.cut(data, d.box_bytes(), d.fields)
                     self.assertEqual(got, (foot.data(), tree, [offsets] * d.fields))

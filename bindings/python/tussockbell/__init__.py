@@ -38,7 +38,7 @@ from array import array
 from collections.abc import Callable, Iterable, Iterator, Sequence
 from contextlib import contextmanager
 from dataclasses import dataclass, field
-from typing import Any, NamedTuple, Optional, SupportsFloat, SupportsIndex, Tuple, Union, overload
+from typing import Any, NamedTuple, Optional, Protocol, SupportsFloat, SupportsIndex, Tuple, Union, overload
 
 __all__ = [
     "Description", "Footer", "Hit", "Offsets", "Refused", "Tree", "Window",
@@ -47,8 +47,16 @@ __all__ = [
 
 __version__ = "0.2.0"
 
+
+class _Named(Protocol):
+    """What has a name, as a numpy.dtype has."""
+
+    @property
+    def name(self) -> str: ...
+
+
 Bytes = Union[bytes, bytearray, memoryview, mmap.mmap]
-Kind = Union[str, SupportsIndex, None]
+Kind = Union[str, SupportsIndex, type, _Named, None]
 End = Union[SupportsIndex, SupportsFloat, bytes, bytearray]
 Range = Tuple[End, End]
 Windows = Union[Bytes, Iterable[Union["Window", Iterable[Range]]]]
@@ -61,6 +69,7 @@ _KINDS = {
     "int64": (1, "<q"),
     "float32": (2, "<f"),
     "float64": (3, "<d"),
+    "uint64": (10, "<Q"),
 }
 
 _TEXTS = {
@@ -248,8 +257,8 @@ _MOST_DIMENSIONS = 4
 _NO_KIND = 255
 _NAMES = {name: number for name, (number, _) in _KINDS.items()}
 _FORMATS = dict(_KINDS.values())
-_INTEGERS = [_NAMES["int32"], _NAMES["int64"]]
-_FLOAT32 = _NAMES["float32"]
+_FLOAT32, _UINT64 = _NAMES["float32"], _NAMES["uint64"]
+_INTEGERS = [_NAMES["int32"], _NAMES["int64"], _UINT64]
 _WIDTHS = {kind: struct.calcsize(one) for kind, one in _FORMATS.items()}
 # Both ends at once, where nothing has to be looked at first.
 _PAIRS = {kind: struct.Struct(one + one[1]).pack for kind, one in _FORMATS.items() if kind != _FLOAT32}
@@ -276,13 +285,14 @@ def _file_size(size: SupportsIndex) -> int:
 
 
 def _kind_byte(kind: Kind) -> int:
-    if isinstance(kind, str):
-        return _NAMES.get(kind, _NO_KIND)
-    try:
-        number = operator.index(kind)  # type: ignore[arg-type]
-    except TypeError:
-        return _NO_KIND
-    return number if number in _FORMATS else _NO_KIND
+    """A kind as the library takes it. A type is a kind by its name, and so is what has a name."""
+    if not isinstance(kind, str):
+        try:
+            number = operator.index(kind)  # type: ignore[arg-type]
+            return number if number in _FORMATS else _NO_KIND
+        except TypeError:
+            kind = kind.__name__ if isinstance(kind, type) else getattr(kind, "name", None)
+    return _NAMES.get(kind, _NO_KIND) if isinstance(kind, str) else _NO_KIND
 
 
 def _kind_bytes(kinds: Iterable[Kind]) -> bytes:
@@ -307,7 +317,7 @@ def _float_pattern(kind: int, end: Any) -> bytes:
 
 def _integer_pattern(kind: int, end: Any) -> Optional[bytes]:
     whole = int(end)
-    return whole.to_bytes(_WIDTHS[kind], "little", signed=True) if whole == end else None
+    return whole.to_bytes(_WIDTHS[kind], "little", signed=kind != _UINT64) if whole == end else None
 
 
 def _pattern(kind: int, end: Any) -> Optional[bytes]:
@@ -402,7 +412,8 @@ def _items_fit(kinds: bytes, view: memoryview) -> bool:
 class Description:
     """What is known of a fragment beforehand, from the array's schema.
 
-    `kinds` has a kind for each dimension: "int32", "int64", "float32", "float64", or TileDB's Datatype number of it.
+    `kinds` has a kind for each dimension: "int32", "int64", "float32", "float64", "uint64", TileDB's Datatype number of it, or a
+    type that is called so, such as numpy.dtype("uint64"), numpy.uint64 or a TileDB dimension's dtype.
     `fields` is the number of entries in each per-field list of the footer. `capacity` is the cells of a full tile.
 
     A description is not checked when it is made. One outside the limits is refused (1 at 0) where it is used.

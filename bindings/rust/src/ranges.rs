@@ -14,10 +14,12 @@ pub enum Kind {
     Float32 = 2,
     /// 64-bit floats, IEEE 754.
     Float64 = 3,
+    /// 64-bit integers without a sign.
+    Uint64 = 10,
 }
 
 impl Kind {
-    const ALL: [Kind; 4] = [Kind::Int32, Kind::Int64, Kind::Float32, Kind::Float64];
+    const ALL: [Kind; 5] = [Kind::Int32, Kind::Int64, Kind::Float32, Kind::Float64, Kind::Uint64];
 
     /// The bytes of a range.
     const fn range_bytes(self) -> usize {
@@ -26,6 +28,7 @@ impl Kind {
             Kind::Int64 => 16,
             Kind::Float32 => 8,
             Kind::Float64 => 16,
+            Kind::Uint64 => 16,
         }
     }
 }
@@ -36,6 +39,7 @@ impl Kind {
 /// use tussockbell::{Kind, Refused};
 ///
 /// assert_eq!(Kind::try_from(2), Ok(Kind::Float32));
+/// assert_eq!(Kind::try_from(10), Ok(Kind::Uint64));
 /// assert_eq!(Kind::try_from(4).unwrap_err().number, Refused::DESCRIPTION);
 /// ```
 impl TryFrom<u8> for Kind {
@@ -95,6 +99,8 @@ pub enum Range {
     Float32(f32, f32),
     /// A range of 64-bit floats.
     Float64(f64, f64),
+    /// A range of 64-bit integers without a sign.
+    Uint64(u64, u64),
 }
 
 impl Range {
@@ -105,6 +111,7 @@ impl Range {
             Range::Int64(..) => Kind::Int64,
             Range::Float32(..) => Kind::Float32,
             Range::Float64(..) => Kind::Float64,
+            Range::Uint64(..) => Kind::Uint64,
         }
     }
 
@@ -115,6 +122,7 @@ impl Range {
             Kind::Int64 => Range::Int64(low as i64, high as i64),
             Kind::Float32 => Range::Float32(f32::from_bits(low as u32), f32::from_bits(high as u32)),
             Kind::Float64 => Range::Float64(f64::from_bits(low), f64::from_bits(high)),
+            Kind::Uint64 => Range::Uint64(low, high),
         }
     }
 
@@ -125,6 +133,7 @@ impl Range {
             Range::Int64(low, high) => [low as u64, high as u64],
             Range::Float32(low, high) => [low.to_bits().into(), high.to_bits().into()],
             Range::Float64(low, high) => [low.to_bits(), high.to_bits()],
+            Range::Uint64(low, high) => [low, high],
         }
     }
 }

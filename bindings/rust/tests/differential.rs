@@ -49,6 +49,7 @@ fn side(kind: Kind, bytes: &[u8]) -> Range {
         Kind::Int64 => ends!(Int64, i64),
         Kind::Float32 => ends!(Float32, f32),
         Kind::Float64 => ends!(Float64, f64),
+        Kind::Uint64 => ends!(Uint64, u64),
     }
 }
 
@@ -71,6 +72,7 @@ fn places(side: &Range) -> [u64; 3] {
         Range::Int64(low, high) => [low, high].map(|x| x as u64),
         Range::Float32(low, high) => [low, high].map(|x| x.to_bits() as u64),
         Range::Float64(low, high) => [low, high].map(|x| x.to_bits()),
+        Range::Uint64(low, high) => [low, high],
     };
     [side.kind() as u64, low, high]
 }

@@ -232,6 +232,29 @@ fn both_zeros_are_one_end() {
 }
 
 #[test]
+fn uint64_is_ordered_without_a_sign() {
+    let (half, most) = (1u64 << 63, u64::MAX);
+    let leaves = [[0, 4], [half - 1, half], [most - 1, most]];
+    let levels = [vec![[0, most]], vec![[0, half], [most - 1, most]], leaves.to_vec()];
+    let mut tree = [2u32, 3].map(u32::to_le_bytes).concat();
+    for level in &levels {
+        tree.extend((level.len() as u64).to_le_bytes());
+        tree.extend(level.iter().flatten().flat_map(|end| end.to_le_bytes()));
+    }
+    let description = Description { kinds: &[Kind::Uint64], fields: 1, capacity: 32 };
+    let ask = |side: Range| query(&description, 3, &tree, &[side], &mut []).map(|answer| (answer.found, answer.looked));
+    assert_eq!(ask(Range::Uint64(0, most)), Ok((3, 6)));
+    assert_eq!(ask(Range::Uint64(half - 1, half)), Ok((1, 5)));
+    assert_eq!(ask(Range::Uint64(half + 1, most - 2)), Ok((0, 3)));
+    assert_eq!(ask(Range::Uint64(most, most)), Ok((1, 4)));
+    assert_eq!(ask(Range::Uint64(half, half - 1)), Err(refusal(Refused::REVERSED, 0)));
+    assert_eq!(ask(Range::Int64(0, 1)), Err(refusal(Refused::WINDOW, 0)));
+    // an int64 dimension, and a window of uint64
+    let signed = Description { kinds: &[Kind::Int64], ..description };
+    assert_eq!(query(&signed, 3, &tree, &[Range::Uint64(0, 1)], &mut []), Err(refusal(Refused::WINDOW, 0)));
+}
+
+#[test]
 fn numbers_go_up_to_the_largest() {
     let sample = sample();
     let d = sample.description();
@@ -275,8 +298,17 @@ fn what_debug_shows_is_short_and_named() {
 
 #[test]
 fn every_fixture_is_answered_as_worked_out() {
-    let names =
-        ["float32", "float64", "full_rows", "mixed", "one_tile", "short_last_row", "three_short_rows", "wide_fanout"];
+    let names = [
+        "float32",
+        "float64",
+        "full_rows",
+        "mixed",
+        "one_tile",
+        "short_last_row",
+        "three_short_rows",
+        "uint64",
+        "wide_fanout",
+    ];
     for name in names {
         let fixture = Fixture::named(name);
         let tree = fixture.open();

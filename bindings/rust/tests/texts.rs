@@ -26,7 +26,7 @@ fn part(holds: impl Fn(&str) -> bool) -> BTreeMap<&'static str, u64> {
 }
 
 fn is_kind(name: &str) -> bool {
-    name.starts_with("INT") || name.starts_with("FLOAT")
+    name.starts_with("INT") || name.starts_with("UINT") || name.starts_with("FLOAT")
 }
 
 fn is_refusal(name: &str) -> bool {
@@ -44,6 +44,7 @@ fn kinds_are_the_headers() {
         ("INT64", Kind::Int64 as u64),
         ("FLOAT32", Kind::Float32 as u64),
         ("FLOAT64", Kind::Float64 as u64),
+        ("UINT64", Kind::Uint64 as u64),
     ];
     assert_eq!(part(is_kind), BTreeMap::from(kinds));
     for number in 0..=u8::MAX {

@@ -3,7 +3,7 @@
 use mathlib.Core.Path.{_≡_, refl, subst}
 use mathlib.Core.List.{List, [], _∷_}
 use Prim.Native.Nat.{ℕ, zero, suc, _+_, _*_, _^_, _≤_, _<_}
-use native.Mathlib.Nat.{mod-lt}
+use native.Mathlib.Nat.{mod-lt, one-le-pow}
 use native.Mathlib.Decide.{decLt}
 use native.Mathlib.Omega.{arith}
 use lib.ListN.{getD, set}
@@ -11,7 +11,6 @@ use borrow.Author.Tests.{lt-ltb}
 use Rattle.answers.specs.Runs.{over}
 use Rattle.description.specs.declared.Kind.{Kind}
 use Rattle.description.specs.declared.Dimension.{Dimension}
-use Rattle.description.specs.declared.Kind.the-variants.{Int32, Int64, Float32, Float64}
 use Rattle.description.specs.Kinds.{endBytes}
 use Rattle.description.specs.Description.{kindAt, sideStart}
 use Rattle.ranges.specs.Ranges.{Ends, endsAt, fitted}
@@ -51,10 +50,7 @@ module _ (side : ℕ → Ends) where
 
 -- a carried end fits its kind
 pub fitted-lt : (k : Kind) (p : ℕ) → fitted k p < 256 ^ endBytes k
-fitted-lt Int32 p = mod-lt p (omega arith)
-fitted-lt Int64 p = mod-lt p (omega arith)
-fitted-lt Float32 p = mod-lt p (omega arith)
-fitted-lt Float64 p = mod-lt p (omega arith)
+fitted-lt k p = mod-lt p (one-le-pow (endBytes k) 256 (omega arith))
 
 -- of a box in its bytes
 pub carried-again : (kinds : List Dimension) (m : ℕ) (bytes : List ℕ) → ((i : ℕ) → getD bytes i 0 < 256) → (i : ℕ) → i < m → m ≤ 4

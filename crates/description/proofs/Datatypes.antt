@@ -4,7 +4,7 @@ use mathlib.Core.Path.{_≡_, refl, sym, ap, _∙_}
 use mathlib.Core.Bool.{Bool, true, false, _&&_}
 use borrow.Author.Tests.{eq-eqb, eqb-true}
 use Rattle.description.specs.declared.Kind.{Kind}
-use Rattle.description.specs.declared.Kind.the-variants.{Int32, Int64, Float32, Float64}
+use Rattle.description.specs.declared.Kind.the-variants.{Int32, Int64, Float32, Float64, Uint64}
 use Rattle.description.specs.Kinds.{datatype, kindOfDatatype, sameKind}
 
 pub kind-again : (k : Kind) → kindOfDatatype (datatype k) ≡ k
@@ -13,6 +13,7 @@ kind-again Int32 = refl
 kind-again Int64 = refl
 kind-again Float32 = refl
 kind-again Float64 = refl
+kind-again Uint64 = refl
 
 pub same-kind : (k : Kind) → sameKind k k ≡ true
 same-kind k = eq-eqb (datatype k) (datatype k) refl

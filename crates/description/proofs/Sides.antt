@@ -10,7 +10,7 @@ use native.Mathlib.Omega.{arith}
 use Rattle.answers.specs.Runs.{over}
 use Rattle.answers.proofs.Runs.{Each, over-ext, over-snoc}
 use Rattle.description.specs.declared.Kind.{Kind}
-use Rattle.description.specs.declared.Kind.the-variants.{Int32, Int64, Float32, Float64}
+use Rattle.description.specs.declared.Kind.the-variants.{Int32, Int64, Float32, Float64, Uint64}
 use Rattle.description.specs.declared.Dimension.{Dimension}
 use Rattle.description.specs.Kinds.{rangeBytes}
 use Rattle.description.specs.Description.{kindAt, sideStart}
@@ -20,6 +20,7 @@ range-bytes-most Int32 = (omega arith, omega arith)
 range-bytes-most Int64 = (omega arith, omega arith)
 range-bytes-most Float32 = (omega arith, omega arith)
 range-bytes-most Float64 = (omega arith, omega arith)
+range-bytes-most Uint64 = (omega arith, omega arith)
 
 module _ (kinds : List Dimension) where
   pub start-first : sideStart kinds 0 ≡ 0

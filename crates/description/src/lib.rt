@@ -10,6 +10,7 @@ pub enum Kind {
     Int64,
     Float32,
     Float64,
+    Uint64,
 }
 
 pub struct Dimension {
@@ -35,6 +36,7 @@ impl Kind {
             Kind::Int64 => 16,
             Kind::Float32 => 8,
             Kind::Float64 => 16,
+            Kind::Uint64 => 16,
         }
     }
 
@@ -47,6 +49,7 @@ impl Kind {
             Kind::Int64 => 1,
             Kind::Float32 => 2,
             Kind::Float64 => 3,
+            Kind::Uint64 => 10,
         }
     }
 
@@ -62,6 +65,9 @@ impl Kind {
         }
         if datatype == 3 {
             return Kind::Float64;
+        }
+        if datatype == 10 {
+            return Kind::Uint64;
         }
         Kind::Int32
     }

@@ -93,6 +93,7 @@ fn kind(x: u64) -> Kind {
         1 => Kind::Int64,
         2 => Kind::Float32,
         3 => Kind::Float64,
+        10 => Kind::Uint64,
         _ => Kind::Int64,
     }
 }
@@ -231,6 +232,7 @@ fn range(k: Kind, low: u64, high: u64) -> Range {
         Kind::Int64 => Range::I64(order::i64_of(low), order::i64_of(high)),
         Kind::Float32 => Range::F32(order::f32_of(a), order::f32_of(z)),
         Kind::Float64 => Range::F64(order::f64_of(low), order::f64_of(high)),
+        Kind::Uint64 => Range::U64(low, high),
     }
 }
 

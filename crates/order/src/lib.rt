@@ -2,7 +2,8 @@
 // comparisons whose contracts speak of the patterns alone.
 ghost use mathlib.Core.Path.{_≡_};
 ghost use mathlib.Core.Bool.{not, _&&_};
-ghost use Prim.Native.Nat.{_+_, _≤_, _<_};
+ghost use Prim.Native.Nat.{_+_, _-_, _≤_, _<_};
+ghost use lib.Dec.{leb};
 ghost use lib.ListN.{length};
 ghost use lib.Ieee.{binary32, binary64, toBits, ofBits, nanBits};
 ghost use mir.Syntax.{w32, w64};
@@ -155,6 +156,13 @@ pub fn i64_at_most(a: i64, b: i64) -> bool
     a <= b
 }
 
+// The same of unsigned numbers, whose patterns are in the numbers' own order.
+pub fn u64_at_most(a: u64, b: u64) -> bool
+    ensures { λ r. ⌜ r ≡ leb a b ⌝ }
+{
+    a <= b
+}
+
 // Is a at most b? False where one of them is a NaN.
 pub fn f32_at_most(a: f32, b: f32) -> bool
     ensures { λ r. ⌜ r ≡ floatAtMost binary32 (toBits binary32 a) (toBits binary32 b) ⌝ }
@@ -242,20 +250,25 @@ pub fn pair32_at(s: &[u8], at: usize) -> Pair32
     Pair32 { low: 0, high: 0 }
 }
 
-// Two numbers of eight bytes, likewise.
+// Two numbers of eight bytes, likewise. One comparison tells whether they are there; above, the compiler makes one of the
+// two itself, where it knows that a box has a multiple of eight bytes.
 pub fn pair64_at(s: &[u8], at: usize) -> Pair64
     ensures { λ r. ⌜ (r .low ≡ firstOfTwo (now (s .entry)) at 8) × (r .high ≡ secondOfTwo (now (s .entry)) at 8) ⌝ }
 {
-    let n = s.len();
-    if at <= n {
-        if 16 <= n - at {
-            return Pair64 {
-                low: eight(s, at),
-                high: eight(s, at + 8),
-            };
-        }
+    if 16 <= bytes_left(s.len(), at) {
+        return Pair64 {
+            low: eight(s, at),
+            high: eight(s, at + 8),
+        };
     }
     Pair64 { low: 0, high: 0 }
+}
+
+// How many of n bytes are left from a place on.
+fn bytes_left(n: usize, at: usize) -> usize
+    ensures { λ r. ⌜ r ≡ n - at ⌝ }
+{
+    if at < n { n - at } else { 0 }
 }
 
 // All four bytes are there. With one `let` a byte this compiles to one load.

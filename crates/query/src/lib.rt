@@ -352,6 +352,7 @@ fn read_side(bytes: &[u8], at: usize, kind: Kind) -> Range
         Kind::Int64 => Range::read(&bytes[at..at + 16], 0, Kind::Int64),
         Kind::Float32 => Range::read(&bytes[at..at + 8], 0, Kind::Float32),
         Kind::Float64 => Range::read(&bytes[at..at + 16], 0, Kind::Float64),
+        Kind::Uint64 => Range::read(&bytes[at..at + 16], 0, Kind::Uint64),
     }
 }
 

@@ -1,5 +1,7 @@
--- How two ranges lie to each other, at every kind at once. Both comparisons ask for one kind and then compare the ends; ranges of different kinds
--- are apart. What meets a query makes whatever is around it meet, since the order of a kind's patterns is transitive.
+-- How two ranges lie to each other. Both comparisons ask for one kind and then compare the ends; ranges of different kinds are apart. What the
+-- comparisons of the ends have as laws is shown over any ordered kind: a range lies inside itself, what lies inside a range lies inside whatever is
+-- around that, and what meets a query makes whatever is around it meet, since the order is transitive. The laws of ranges are these at the kind of the
+-- ranges, whichever it is.
 -- Assumes nothing.
 use mathlib.Core.Path.{_≡_, refl, sym, ap, _∙_, subst}
 use mathlib.Core.Bool.{Bool, true, false, not, _&&_, _||_}
@@ -14,25 +16,26 @@ use mir.Syntax.{Width}
 use mir.Val.{hasKey, hbits, toZ, ofZ}
 use mir.ValLaws.{toZ-ofZ}
 use Rattle.description.specs.declared.Kind.{Kind}
-use Rattle.description.specs.declared.Kind.the-variants.{Int32, Int64, Float32, Float64}
-use Rattle.description.specs.Kinds.{sameKind, key, isNan, atMost}
+use Rattle.description.specs.declared.Kind.the-variants.{Int32, Int64, Float32, Float64, Uint64}
+use Rattle.description.specs.Kinds.{Ordered, isNan, ordered, sameKind, atMost}
 use Rattle.description.proofs.Datatypes.{same-kind, one-kind}
-use Rattle.description.proofs.Tests.{both}
-use Rattle.description.proofs.Patterns.{at-most-trans}
+use Rattle.description.proofs.Tests.{both, neither, and-false}
+use Rattle.description.proofs.Patterns.{at-most-refl, at-most-trans}
 use Rattle.ranges.specs.declared.Range.{Range}
-use Rattle.ranges.specs.declared.Range.the-variants.{I32, I64, F32, F64}
+use Rattle.ranges.specs.declared.Range.the-variants.{I32, I64, F32, F64, U64}
 use Rattle.ranges.specs.Ranges.{Ends, ends, kindOf, endsOf, hasNan, inside, meets}
 use Rattle.ranges.proofs.Range.{the-type}
 
--- a comparison: of the kinds, and then of the ends
-abbrev pub compared : (Kind → ℕ → ℕ → ℕ → ℕ → Bool) → Ends → Ends → Bool
-compared f e o = sameKind (e .kind) (o .kind) && f (e .kind) (e .low) (e .high) (o .low) (o .high)
+-- a comparison of the ends of two ranges, in an ordered kind
+abbrev pub within : Ordered → ℕ → ℕ → ℕ → ℕ → Bool
+within o a b c d = atMost o c a && atMost o b d
 
-abbrev pub within : Kind → ℕ → ℕ → ℕ → ℕ → Bool
-within k a b c d = atMost k c a && atMost k b d
+abbrev pub touching : Ordered → ℕ → ℕ → ℕ → ℕ → Bool
+touching o a b c d = atMost o a d && atMost o c b
 
-abbrev pub touching : Kind → ℕ → ℕ → ℕ → ℕ → Bool
-touching k a b c d = atMost k a d && atMost k c b
+-- of two ranges: of their kinds, and then of the ends
+abbrev pub compared : (Ordered → ℕ → ℕ → ℕ → ℕ → Bool) → Ends → Ends → Bool
+compared f e o = sameKind (e .kind) (o .kind) && f (ordered (e .kind)) (e .low) (e .high) (o .low) (o .high)
 
 -- ---- as the code compares
 pub ends-parts : (r : Range) → ends (kindOf r) (endsOf r .low) (endsOf r .high) ≡ endsOf r
@@ -41,6 +44,7 @@ ends-parts (I32 a b) = refl
 ends-parts (I64 a b) = refl
 ends-parts (F32 a b) = refl
 ends-parts (F64 a b) = refl
+ends-parts (U64 a b) = refl
 
 pub ends-kind : (r : Range) → endsOf r .kind ≡ kindOf r
 ends-kind r = ap (λ (e : Ends). e .kind) (sym (ends-parts r))
@@ -51,6 +55,7 @@ tag Int32 = 0
 tag Int64 = 1
 tag Float32 = 2
 tag Float64 = 3
+tag Uint64 = 4
 
 tag-kind : (r : Range) → tagOf the-type r ≡ tag (endsOf r .kind)
 unfolding endsOf tag
@@ -58,8 +63,9 @@ tag-kind (I32 a b) = refl
 tag-kind (I64 a b) = refl
 tag-kind (F32 a b) = refl
 tag-kind (F64 a b) = refl
+tag-kind (U64 a b) = refl
 
-module _ (f : Kind → ℕ → ℕ → ℕ → ℕ → Bool) (r s r′ : Range) (known : r ≡ r′) where
+module _ (f : Ordered → ℕ → ℕ → ℕ → ℕ → Bool) (r s r′ : Range) (known : r ≡ r′) where
   -- of one kind: both ranges are known
   pub of-one : {x : Bool} (s′ : Range) → s ≡ s′ → x ≡ compared f (endsOf r′) (endsOf s′) → x ≡ compared f (endsOf r) (endsOf s)
   of-one s′ q l = rw (known, q) l
@@ -69,7 +75,7 @@ module _ (f : Kind → ℕ → ℕ → ℕ → ℕ → Bool) (r s r′ : Range) 
   of-others ks n h = rw known (go (sameKind (endsOf r′ .kind) (endsOf s .kind)) refl)
     where
       go : (t : Bool) → sameKind (endsOf r′ .kind) (endsOf s .kind) ≡ t
-          → false ≡ (t && f (endsOf r′ .kind) (endsOf r′ .low) (endsOf r′ .high) (endsOf s .low) (endsOf s .high))
+          → false ≡ (t && f (ordered (endsOf r′ .kind)) (endsOf r′ .low) (endsOf r′ .high) (endsOf s .low) (endsOf s .high))
       go true e =
           let same = tag-kind s ∙ ap tag (sym (one-kind (endsOf r′ .kind) (endsOf s .kind) e)) ∙ sym (tag-kind r′) in
           absurd (miss ks (tagOf the-type r′) n (subst (OneOf ks) same h))
@@ -89,41 +95,77 @@ pub passed : (w : Width) (g : ℕ → ℕ → Bool) (a b c d : ℤ) {x : Bool}
     → x ≡ (g (ofZ w a) (ofZ w b) && g (ofZ w c) (ofZ w d))
 passed w g a b c d p q r s e = e ∙ (λ i. g (int-kept w a p i) (int-kept w b q i) && g (int-kept w c r i) (int-kept w d s i))
 
--- ---- the laws
-module _ (f : Kind → ℕ → ℕ → ℕ → ℕ → Bool) (e o : Ends) where
-  compared-says : compared f e o ≡ true → (e .kind ≡ o .kind) × (f (e .kind) (e .low) (e .high) (o .low) (o .high) ≡ true)
+-- ---- the laws, over an ordered kind
+module _ (o : Ordered) where
+  pub within-refl : (a b : ℕ) → o .nan a ≡ false → o .nan b ≡ false → within o a b a b ≡ true
+  within-refl a b p q = rw (at-most-refl o a p, at-most-refl o b q)
+
+  module _ (a b c d x y : ℕ) (i : within o a b c d ≡ true) where
+    low : atMost o c a ≡ true
+    low = both (atMost o c a) (atMost o b d) i .0
+
+    high : atMost o b d ≡ true
+    high = both (atMost o c a) (atMost o b d) i .1
+
+    pub within-trans : within o c d x y ≡ true → within o a b x y ≡ true
+    within-trans j =
+        let k = both (atMost o x c) (atMost o d y) j in
+        rw (at-most-trans o x c a (k .0) low, at-most-trans o b d y high (k .1))
+
+    pub touching-around : touching o a b x y ≡ true → touching o c d x y ≡ true
+    touching-around j =
+        let k = both (atMost o a y) (atMost o x b) j in
+        rw (at-most-trans o c a y low (k .0), at-most-trans o x b d (k .1) high)
+
+  -- a NaN at either end
+  pub touching-nan : (a b c d : ℕ) → (o .nan a || o .nan b) ≡ true → touching o a b c d ≡ false
+  unfolding atMost
+  touching-nan a b c d = go (o .nan a) (o .nan b) (not (o .nan d) && leb (o .key a) (o .key d)) (not (o .nan c)) (leb (o .key c) (o .key b))
+    where
+      go : (p q x y z : Bool) → (p || q) ≡ true → ((not p && x) && (y && (not q && z))) ≡ false
+      go true q x y z h = refl
+      go false true true true z h = refl
+      go false true true false z h = refl
+      go false true false y z h = refl
+      go false false x y z h = cc
+
+-- ---- of ranges
+module _ (f : Ordered → ℕ → ℕ → ℕ → ℕ → Bool) (e o : Ends) where
+  compared-says : compared f e o ≡ true → (e .kind ≡ o .kind) × (f (ordered (e .kind)) (e .low) (e .high) (o .low) (o .high) ≡ true)
   compared-says h =
       let s = both (sameKind (e .kind) (o .kind)) _ h in
       (one-kind (e .kind) (o .kind) (s .0), s .1)
 
-  compared-when : e .kind ≡ o .kind → f (e .kind) (e .low) (e .high) (o .low) (o .high) ≡ true → compared f e o ≡ true
+  compared-when : e .kind ≡ o .kind → f (ordered (e .kind)) (e .low) (e .high) (o .low) (o .high) ≡ true → compared f e o ≡ true
   compared-when k h = rw (h, ← k, same-kind (e .kind))
 
--- a range that meets a query makes every range around it meet
-pub meets-around : (e o q : Ends) → inside e o ≡ true → meets e q ≡ true → meets o q ≡ true
-unfolding inside meets
-meets-around e o q p m =
-    let k = e .kind in
-    let s = compared-says within e o p in
-    let i = both (atMost k (o .low) (e .low)) (atMost k (e .high) (o .high)) (s .1) in
-    let t = compared-says touching e q m in
-    let j = both (atMost k (e .low) (q .high)) (atMost k (q .low) (e .high)) (t .1) in
-    compared-when touching o q (sym (s .0) ∙ t .0)
-    (rw (← (s .0), at-most-trans k (o .low) (e .low) (q .high) (i .0) (j .0), at-most-trans k (q .low) (e .high) (o .high) (j .1) (i .1)))
+-- a range without a NaN lies inside itself
+pub inside-refl : (e : Ends) → hasNan e ≡ false → inside e e ≡ true
+unfolding inside hasNan
+inside-refl e h =
+    let n = neither (isNan (e .kind) (e .low)) (isNan (e .kind) (e .high)) h in
+    compared-when within e e refl (within-refl (ordered (e .kind)) (e .low) (e .high) (n .0) (n .1))
+
+module _ (e o x : Ends) (p : inside e o ≡ true) where
+  -- what lies inside a range lies inside every range around that
+  pub inside-trans : inside o x ≡ true → inside e x ≡ true
+  unfolding inside
+  inside-trans q =
+      let s = compared-says within e o p in
+      let t = compared-says within o x q in
+      compared-when within e x (s .0 ∙ t .0)
+      (within-trans (ordered (e .kind)) (e .low) (e .high) (o .low) (o .high) (x .low) (x .high) (s .1) (rw (s .0) (t .1)))
+
+  -- a range that meets a query makes every range around it meet
+  pub meets-around : meets e x ≡ true → meets o x ≡ true
+  unfolding inside meets
+  meets-around m =
+      let s = compared-says within e o p in
+      let t = compared-says touching e x m in
+      compared-when touching o x (sym (s .0) ∙ t .0)
+      (rw (← (s .0)) (touching-around (ordered (e .kind)) (e .low) (e .high) (o .low) (o .high) (x .low) (x .high) (s .1) (t .1)))
 
 -- a range with NaN meets nothing
 pub nan-misses : (e q : Ends) → hasNan e ≡ true → meets e q ≡ false
-unfolding hasNan meets atMost
-nan-misses e q h =
-    let k = e .kind in
-    go (isNan k (e .low)) (isNan k (e .high)) (sameKind k (q .kind)) (not (isNan k (q .high)) && leb (key k (e .low)) (key k (q .high)))
-    (not (isNan k (q .low))) (leb (key k (q .low)) (key k (e .high))) h
-  where
-    go : (a b s x y z : Bool) → (a || b) ≡ true → (s && ((not a && x) && (y && (not b && z)))) ≡ false
-    go true b true x y z h = refl
-    go true b false x y z h = refl
-    go false true true true true z h = refl
-    go false true true true false z h = refl
-    go false true true false y z h = refl
-    go false true false x y z h = refl
-    go false false s x y z h = cc
+unfolding hasNan meets
+nan-misses e q h = rw (touching-nan (ordered (e .kind)) (e .low) (e .high) (q .low) (q .high) h) (and-false (sameKind (e .kind) (q .kind)))

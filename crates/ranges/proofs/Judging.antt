@@ -10,7 +10,7 @@ use lib.Dec.{leb}
 use Rattle.answers.specs.Refusals.{none}
 use Rattle.order.proofs.Tests.{not-leb}
 use Rattle.description.specs.declared.Kind.{Kind}
-use Rattle.description.specs.Kinds.{key, isNan, isInfinite, atMost}
+use Rattle.description.specs.Kinds.{key, isNan, isInfinite, ordered, atMost}
 use Rattle.description.proofs.Tests.{both}
 use Rattle.description.proofs.Patterns.{at-most-says}
 use borrow.Author.Tests.{not-true}
@@ -33,7 +33,7 @@ module _ (k : Kind) (a b : ℕ) (r : Range) where
   abbrev infinite : Bool
   infinite = isInfinite k a || isInfinite k b
 
-  pub verdict-on-is : verdict (ends k a b) r ≡ verdictOn r (atMost k a b) (isNan k a || isNan k b) infinite
+  pub verdict-on-is : verdict (ends k a b) r ≡ verdictOn r (atMost (ordered k) a b) (isNan k a || isNan k b) infinite
   unfolding verdict hasNan hasInfinity isReversed atMost
   verdict-on-is = rw (← not-leb (key k b) (key k a)) (go (isNan k a) (isNan k b) (leb (key k a) (key k b)))
     where
@@ -45,7 +45,7 @@ module _ (k : Kind) (a b : ℕ) (r : Range) where
       go false false true = refl
       go false false false = refl
 
-  pub verdict-by : {p n i : Bool} {v : Verdict} → endsOf r ≡ ends k a b → p ≡ atMost k a b → n ≡ (isNan k a || isNan k b) → i ≡ infinite
+  pub verdict-by : {p n i : Bool} {v : Verdict} → endsOf r ≡ ends k a b → p ≡ atMost (ordered k) a b → n ≡ (isNan k a || isNan k b) → i ≡ infinite
       → v ≡ verdictOn r p n i → v ≡ verdict (endsOf r) r
   verdict-by q e f h g = g ∙ (λ i. verdictOn r (e i) (f i) (h i)) ∙ sym verdict-on-is ∙ ap (λ (x : Ends). verdict x r) (sym q)
 
@@ -53,8 +53,8 @@ module _ (k : Kind) (a b : ℕ) (r : Range) where
   abbrev pub otherVerdict : Bool → Bool → Bool → Verdict
   otherVerdict ordered nan inf = cond nan NotANumber (cond ordered (Infinite r) (cond inf InfiniteReversed Reversed))
 
-  other-is : (atMost k a b && (not (isInfinite k a) && not (isInfinite k b))) ≡ false
-      → verdict (ends k a b) r ≡ otherVerdict (atMost k a b) (isNan k a || isNan k b) infinite
+  other-is : (atMost (ordered k) a b && (not (isInfinite k a) && not (isInfinite k b))) ≡ false
+      → verdict (ends k a b) r ≡ otherVerdict (atMost (ordered k) a b) (isNan k a || isNan k b) infinite
   unfolding verdict hasNan hasInfinity isReversed atMost
   other-is h =
       rw (← not-leb (key k b) (key k a)) (go (isNan k a) (isNan k b) (leb (key k a) (key k b)) (isInfinite k a) (isInfinite k b) h)
@@ -69,24 +69,24 @@ module _ (k : Kind) (a b : ℕ) (r : Range) where
       go false false true false false h = absurd (true≢false h)
       go false false false i j h = refl
 
-  pub other-by : {p n i t : Bool} {v : Verdict} → endsOf r ≡ ends k a b → p ≡ atMost k a b → n ≡ (isNan k a || isNan k b) → i ≡ infinite
-      → t ≡ (atMost k a b && (not (isInfinite k a) && not (isInfinite k b))) → t ≡ false → v ≡ otherVerdict p n i → v ≡ verdict (endsOf r) r
+  pub other-by : {p n i t : Bool} {v : Verdict} → endsOf r ≡ ends k a b → p ≡ atMost (ordered k) a b → n ≡ (isNan k a || isNan k b) → i ≡ infinite
+      → t ≡ (atMost (ordered k) a b && (not (isInfinite k a) && not (isInfinite k b))) → t ≡ false → v ≡ otherVerdict p n i → v ≡ verdict (endsOf r) r
   other-by q e f h s u g =
       g ∙ (λ i. otherVerdict (e i) (f i) (h i)) ∙ sym (other-is (sym s ∙ u)) ∙ ap (λ (x : Ends). verdict x r) (sym q)
 
   -- ends that are finite and in order
-  pub sound : atMost k a b ≡ true → isInfinite k a ≡ false → isInfinite k b ≡ false → verdict (ends k a b) r ≡ Sound r
+  pub sound : atMost (ordered k) a b ≡ true → isInfinite k a ≡ false → isInfinite k b ≡ false → verdict (ends k a b) r ≡ Sound r
   sound h p q = verdict-on-is ∙ rw (h, p, q)
 
-  pub sound-by : {t : Bool} → endsOf r ≡ ends k a b → t ≡ (atMost k a b && (not (isInfinite k a) && not (isInfinite k b))) → t ≡ true
+  pub sound-by : {t : Bool} → endsOf r ≡ ends k a b → t ≡ (atMost (ordered k) a b && (not (isInfinite k a) && not (isInfinite k b))) → t ≡ true
       → Sound r ≡ verdict (endsOf r) r
   sound-by q e h =
-      let s = both (atMost k a b) _ (sym e ∙ h) in
+      let s = both (atMost (ordered k) a b) _ (sym e ∙ h) in
       let t = both (not (isInfinite k a)) (not (isInfinite k b)) (s .1) in
       sym (ap (λ (x : Ends). verdict x r) q ∙ sound (s .0) (not-true (isInfinite k a) (t .0)) (not-true (isInfinite k b) (t .1)))
 
   module _ (place : ℕ) where
-    pub stored-sound : atMost k a b ≡ true → isInfinite k a ≡ false → isInfinite k b ≡ false
+    pub stored-sound : atMost (ordered k) a b ≡ true → isInfinite k a ≡ false → isInfinite k b ≡ false
         → storedRefusal (verdict (ends k a b) r) place ≡ none
     stored-sound h p q = rw (sound h p q)
 
@@ -97,8 +97,8 @@ module _ (k : Kind) (a b : ℕ) (r : Range) where
     stored-says false false true e = absurd (omega arith)
     stored-says false false false e = absurd (omega arith)
 
-    pub stored-clear : storedRefusal (verdict (ends k a b) r) place .number ≡ 0 → (atMost k a b ≡ true) × (infinite ≡ false)
-    stored-clear h = stored-says (atMost k a b) (isNan k a || isNan k b) infinite (rw verdict-on-is at h)
+    pub stored-clear : storedRefusal (verdict (ends k a b) r) place .number ≡ 0 → (atMost (ordered k) a b ≡ true) × (infinite ≡ false)
+    stored-clear h = stored-says (atMost (ordered k) a b) (isNan k a || isNan k b) infinite (rw verdict-on-is at h)
 
     asked-says : (o n i : Bool) → askedRefusal (verdictOn r o n i) place .number ≡ 0 → o ≡ true
     asked-says true n i e = refl
@@ -106,13 +106,13 @@ module _ (k : Kind) (a b : ℕ) (r : Range) where
     asked-says false false true e = absurd (omega arith)
     asked-says false false false e = absurd (omega arith)
 
-    pub asked-clear : askedRefusal (verdict (ends k a b) r) place .number ≡ 0 → atMost k a b ≡ true
-    asked-clear h = asked-says (atMost k a b) (isNan k a || isNan k b) infinite (rw verdict-on-is at h)
+    pub asked-clear : askedRefusal (verdict (ends k a b) r) place .number ≡ 0 → atMost (ordered k) a b ≡ true
+    asked-clear h = asked-says (atMost (ordered k) a b) (isNan k a || isNan k b) infinite (rw verdict-on-is at h)
 
 -- so a stored range that is not refused is finite
 pub stored-finite : (e : Ends) (r : Range) (place : ℕ) → storedRefusal (verdict e r) place .number ≡ 0 → isFinite e ≡ true
 unfolding hasNan hasInfinity
 stored-finite e r place h =
     let s = stored-clear (e .kind) (e .low) (e .high) r place h in
-    let n = at-most-says (e .kind) (e .low) (e .high) (s .0) in
+    let n = at-most-says (ordered (e .kind)) (e .low) (e .high) (s .0) in
     rw (n .0, n .1, s .1)

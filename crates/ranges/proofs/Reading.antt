@@ -23,8 +23,8 @@ use Rattle.order.proofs.Pairs.{there, first-lt, second-lt}
 use Rattle.order.proofs.Read.{nan-read, bits-read}
 use Rattle.description.proofs.Kind.{the-type}
 use Rattle.description.specs.declared.Kind.{Kind}
-use Rattle.description.specs.declared.Kind.the-variants.{Int32, Int64, Float32, Float64}
-use Rattle.description.specs.Kinds.{rangeBytes, endBytes, isNan}
+use Rattle.description.specs.declared.Kind.the-variants.{Int32, Int64, Float32, Float64, Uint64}
+use Rattle.description.specs.Kinds.{rangeBytes, endBytes, isNan, ordered}
 use Rattle.description.proofs.Datatypes.{when-same}
 use Rattle.description.proofs.Patterns.{Alike, alike-nan, alike-infinite, alike-left, alike-right}
 use Rattle.ranges.specs.declared.Range.{Range}
@@ -48,12 +48,14 @@ four-bytes Int32 h = refl
 four-bytes Int64 h = absurd (miss (0 ∷ 2 ∷ []) 1 tt h)
 four-bytes Float32 h = refl
 four-bytes Float64 h = absurd (miss (0 ∷ 2 ∷ []) 3 tt h)
+four-bytes Uint64 h = absurd (miss (0 ∷ 2 ∷ []) 4 tt h)
 
-pub eight-bytes : (k : Kind) → OneOf (1 ∷ 3 ∷ []) (tagOf the-type k) → endBytes k ≡ 8
-eight-bytes Int32 h = absurd (miss (1 ∷ 3 ∷ []) 0 tt h)
+pub eight-bytes : (k : Kind) → OneOf (1 ∷ 3 ∷ 4 ∷ []) (tagOf the-type k) → endBytes k ≡ 8
+eight-bytes Int32 h = absurd (miss (1 ∷ 3 ∷ 4 ∷ []) 0 tt h)
 eight-bytes Int64 h = refl
-eight-bytes Float32 h = absurd (miss (1 ∷ 3 ∷ []) 2 tt h)
+eight-bytes Float32 h = absurd (miss (1 ∷ 3 ∷ 4 ∷ []) 2 tt h)
 eight-bytes Float64 h = refl
+eight-bytes Uint64 h = refl
 
 -- ---- a pattern that fits, and its value's
 pub fitted-same : (k : Kind) (p : ℕ) → p < 256 ^ endBytes k → fitted k p ≡ p
@@ -64,6 +66,7 @@ again Int32 p = ofZ w32 (toZ w32 p)
 again Int64 p = ofZ w64 (toZ w64 p)
 again Float32 p = toBits binary32 (ofBits binary32 p)
 again Float64 p = toBits binary64 (ofBits binary64 p)
+again Uint64 p = p
 
 ends-again : (k : Kind) (a b : ℕ) → endsOf (rangeOf k a b) ≡ ends k (again k a) (again k b)
 unfolding endsOf
@@ -71,6 +74,7 @@ ends-again Int32 a b = refl
 ends-again Int64 a b = refl
 ends-again Float32 a b = refl
 ends-again Float64 a b = refl
+ends-again Uint64 a b = refl
 
 float-again : (f : Format) (p : ℕ) → Fits (widthOf f) p
     → (toBits f (ofBits f p) ≡ p) ⊎ ((nanBits f (toBits f (ofBits f p)) ≡ true) × (nanBits f p ≡ true))
@@ -80,19 +84,20 @@ float-again f p h = go (nanBits f p) refl
     go true e = inr (nan-read f p ∙ e, e)
     go false e = inl (bits-read f p h e)
 
-alike-again : (k : Kind) (p : ℕ) → p < 256 ^ endBytes k → Alike k (again k p) p
+alike-again : (k : Kind) (p : ℕ) → p < 256 ^ endBytes k → Alike (ordered k) (again k p) p
 unfolding isNan
 alike-again Int32 p h = inl (ofZ-toZ w32 p (record { fits = h }))
 alike-again Int64 p h = inl (ofZ-toZ w64 p (record { fits = h }))
 alike-again Float32 p h = float-again binary32 p (record { fits = h })
 alike-again Float64 p h = float-again binary64 p (record { fits = h })
+alike-again Uint64 p h = inl refl
 
 -- ---- a range made of patterns that fit
 module _ (k : Kind) (a b : ℕ) (a-fits : a < 256 ^ endBytes k) (b-fits : b < 256 ^ endBytes k) where
-  low : Alike k (again k a) a
+  low : Alike (ordered k) (again k a) a
   low = alike-again k a a-fits
 
-  high : Alike k (again k b) b
+  high : Alike (ordered k) (again k b) b
   high = alike-again k b b-fits
 
   as-made : {A : Type 0} (f : Ends → A) → f (ends k (again k a) (again k b)) ≡ f (ends k a b) → f (endsOf (rangeOf k a b)) ≡ f (ends k a b)
@@ -101,31 +106,31 @@ module _ (k : Kind) (a b : ℕ) (a-fits : a < 256 ^ endBytes k) (b-fits : b < 25
   pub of-verdict : (r : Range) → verdict (endsOf (rangeOf k a b)) r ≡ verdict (ends k a b) r
   of-verdict r =
       as-made (λ e. verdict e r)
-      (rw (verdict-on-is k (again k a) (again k b) r, verdict-on-is k a b r, alike-left k (again k a) a (again k b) low, alike-right k (again k b) b a high, alike-nan k (again k a) a low, alike-nan k (again k b) b high, alike-infinite k (again k a) a low, alike-infinite k (again k b) b high))
+      (rw (verdict-on-is k (again k a) (again k b) r, verdict-on-is k a b r, alike-left (ordered k) (again k a) a (again k b) low, alike-right (ordered k) (again k b) b a high, alike-nan (ordered k) (again k a) a low, alike-nan (ordered k) (again k b) b high, alike-infinite k (again k a) a low, alike-infinite k (again k b) b high))
 
   pub of-inside-left : (o : Ends) → inside (endsOf (rangeOf k a b)) o ≡ inside (ends k a b) o
   unfolding inside
   of-inside-left o =
-      as-made (λ e. inside e o) (rw (alike-right k (again k a) a (o .low) low, alike-left k (again k b) b (o .high) high))
+      as-made (λ e. inside e o) (rw (alike-right (ordered k) (again k a) a (o .low) low, alike-left (ordered k) (again k b) b (o .high) high))
 
   pub of-meets-left : (o : Ends) → meets (endsOf (rangeOf k a b)) o ≡ meets (ends k a b) o
   unfolding meets
   of-meets-left o =
-      as-made (λ e. meets e o) (rw (alike-left k (again k a) a (o .high) low, alike-right k (again k b) b (o .low) high))
+      as-made (λ e. meets e o) (rw (alike-left (ordered k) (again k a) a (o .high) low, alike-right (ordered k) (again k b) b (o .low) high))
 
   pub of-inside-right : (e : Ends) → inside e (endsOf (rangeOf k a b)) ≡ inside e (ends k a b)
   unfolding inside
   of-inside-right e =
       as-made (inside e)
-      (when-same (e .kind) k (λ x. within x (e .low) (e .high) (again k a) (again k b)) (λ x. within x (e .low) (e .high) a b)
-      (rw (alike-left k (again k a) a (e .low) low, alike-right k (again k b) b (e .high) high)))
+      (when-same (e .kind) k (λ x. within (ordered x) (e .low) (e .high) (again k a) (again k b)) (λ x. within (ordered x) (e .low) (e .high) a b)
+      (rw (alike-left (ordered k) (again k a) a (e .low) low, alike-right (ordered k) (again k b) b (e .high) high)))
 
   pub of-meets-right : (e : Ends) → meets e (endsOf (rangeOf k a b)) ≡ meets e (ends k a b)
   unfolding meets
   of-meets-right e =
       as-made (meets e)
-      (when-same (e .kind) k (λ x. touching x (e .low) (e .high) (again k a) (again k b)) (λ x. touching x (e .low) (e .high) a b)
-      (rw (alike-right k (again k b) b (e .low) high, alike-left k (again k a) a (e .high) low)))
+      (when-same (e .kind) k (λ x. touching (ordered x) (e .low) (e .high) (again k a) (again k b)) (λ x. touching (ordered x) (e .low) (e .high) a b)
+      (rw (alike-right (ordered k) (again k b) b (e .low) high, alike-left (ordered k) (again k a) a (e .high) low)))
 
 -- ---- a range that was read
 module _ (s : List ℕ) (byte : (i : ℕ) → getD s i 0 < 256) (k : Kind) (at : ℕ) where
@@ -152,6 +157,7 @@ two-ends Int32 = refl
 two-ends Int64 = refl
 two-ends Float32 = refl
 two-ends Float64 = refl
+two-ends Uint64 = refl
 
 module _ (k : Kind) (s : List ℕ) (at w : ℕ) (size : w ≡ rangeBytes k) (fits : at + w ≤ length s) where
   part-ends : endsAt k (take w (drop at s)) 0 ≡ endsAt k s at

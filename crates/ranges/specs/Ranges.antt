@@ -11,12 +11,12 @@ use Rattle.answers.specs.Refusals.{refusal, none, notANumber, reversed, infinit
 use Rattle.answers.specs.declared.Refusal.{Refusal}
 use Rattle.order.specs.Little.{firstOfTwo, secondOfTwo}
 use Rattle.description.specs.declared.Kind.{Kind}
-use Rattle.description.specs.declared.Kind.the-variants.{Int32, Int64, Float32, Float64}
+use Rattle.description.specs.declared.Kind.the-variants.{Int32, Int64, Float32, Float64, Uint64}
 use Rattle.ranges.specs.declared.Range.{Range}
-use Rattle.ranges.specs.declared.Range.the-variants.{I32, I64, F32, F64}
+use Rattle.ranges.specs.declared.Range.the-variants.{I32, I64, F32, F64, U64}
 use Rattle.ranges.specs.declared.Verdict.{Verdict}
 use Rattle.ranges.specs.declared.Verdict.the-variants.{Sound, Infinite, InfiniteReversed, NotANumber, Reversed}
-use Rattle.description.specs.Kinds.{endBytes, sameKind, key, isNan, isInfinite, atMost}
+use Rattle.description.specs.Kinds.{endBytes, sameKind, key, isNan, isInfinite, ordered, atMost}
 
 -- a range by its kind and the bit patterns of its ends
 pub record Ends : Type 0 where
@@ -37,6 +37,7 @@ kindOf (I32 a b) = Int32
 kindOf (I64 a b) = Int64
 kindOf (F32 a b) = Float32
 kindOf (F64 a b) = Float64
+kindOf (U64 a b) = Uint64
 
 -- the patterns of a range's ends
 unfoldable pub endsOf : Range → Ends
@@ -44,6 +45,7 @@ endsOf (I32 a b) = ends Int32 (ofZ w32 a) (ofZ w32 b)
 endsOf (I64 a b) = ends Int64 (ofZ w64 a) (ofZ w64 b)
 endsOf (F32 a b) = ends Float32 (toBits binary32 a) (toBits binary32 b)
 endsOf (F64 a b) = ends Float64 (toBits binary64 a) (toBits binary64 b)
+endsOf (U64 a b) = ends Uint64 a b
 
 -- the pattern of an end in a number that may be wider: its lowest bytes
 abbrev pub fitted : Kind → ℕ → ℕ
@@ -55,6 +57,7 @@ rangeOf Int32 a b = I32 (toZ w32 a) (toZ w32 b)
 rangeOf Int64 a b = I64 (toZ w64 a) (toZ w64 b)
 rangeOf Float32 a b = F32 (ofBits binary32 a) (ofBits binary32 b)
 rangeOf Float64 a b = F64 (ofBits binary64 a) (ofBits binary64 b)
+rangeOf Uint64 a b = U64 a b
 
 abbrev pub rangeAt : Kind → List ℕ → ℕ → Range
 rangeAt k s at = rangeOf k (endsAt k s at .low) (endsAt k s at .high)
@@ -104,12 +107,14 @@ askedRefusal Reversed place = refusal reversed place
 -- Inside means inside or equal.
 unfoldable pub inside : Ends → Ends → Bool
 inside e outer =
+    let kind = ordered (e .kind) in
     sameKind (e .kind) (outer .kind)
-    && (atMost (e .kind) (outer .low) (e .low) && atMost (e .kind) (e .high) (outer .high))
+    && (atMost kind (outer .low) (e .low) && atMost kind (e .high) (outer .high))
 
 -- A range meets the query's when its minimum is at most the query's maximum and the query's minimum at most its
 -- maximum. A range with NaN meets nothing.
 unfoldable pub meets : Ends → Ends → Bool
 meets e query =
+    let kind = ordered (e .kind) in
     sameKind (e .kind) (query .kind)
-    && (atMost (e .kind) (e .low) (query .high) && atMost (e .kind) (query .low) (e .high))
+    && (atMost kind (e .low) (query .high) && atMost kind (query .low) (e .high))

@@ -7,7 +7,7 @@ ghost use Prim.Native.Nat.{_%_, _^_, _<_};
 ghost use lib.Ieee.{binary32, binary64, toBits};
 ghost use mir.Syntax.{w32, w64};
 ghost use mir.Val.{ofZ};
-ghost use Rattle.description.specs.Kinds.{endBytes, atMost};
+ghost use Rattle.description.specs.Kinds.{endBytes, ordered, atMost};
 ghost use Rattle.ranges.specs.Ranges.{kindOf, endsOf, endsAt, fitted, rangeOf, rangeAt};
 ghost use Rattle.ranges.specs.Ranges.{verdict, storedRefusal, askedRefusal, inside, meets};
 
@@ -17,6 +17,7 @@ pub enum Range {
     I64(i64, i64),
     F32(f32, f32),
     F64(f64, f64),
+    U64(u64, u64),
 }
 
 // The verdict on a range: what its ends are, and whether they are in order. A stored range must be sound; a window's may
@@ -44,6 +45,7 @@ impl Range {
             Range::I64(_, _) => Kind::Int64,
             Range::F32(_, _) => Kind::Float32,
             Range::F64(_, _) => Kind::Float64,
+            Range::U64(_, _) => Kind::Uint64,
         }
     }
 
@@ -68,6 +70,10 @@ impl Range {
                 let ends = order::pair64_at(bytes, at);
                 Range::F64(order::f64_of(ends.low), order::f64_of(ends.high))
             }
+            Kind::Uint64 => {
+                let ends = order::pair64_at(bytes, at);
+                Range::U64(ends.low, ends.high)
+            }
         }
     }
 
@@ -80,6 +86,7 @@ impl Range {
             Kind::Int64 => Range::I64(order::i64_of(low), order::i64_of(high)),
             Kind::Float32 => Range::F32(order::f32_of(lower(low)), order::f32_of(lower(high))),
             Kind::Float64 => Range::F64(order::f64_of(low), order::f64_of(high)),
+            Kind::Uint64 => Range::U64(low, high),
         }
     }
 
@@ -103,6 +110,10 @@ impl Range {
             Range::F64(low, high) => Patterns {
                 low: order::f64_bits(low),
                 high: order::f64_bits(high),
+            },
+            Range::U64(low, high) => Patterns {
+                low: low,
+                high: high,
             },
         }
     }
@@ -136,6 +147,7 @@ impl Range {
                     order::f64_is_infinite(low) || order::f64_is_infinite(high),
                 )
             }
+            Range::U64(low, high) => finite_verdict(self, order::u64_at_most(low, high)),
         }
     }
 
@@ -160,6 +172,10 @@ impl Range {
                 Range::F64(least, most) => f64s_in_order(least, low, high, most),
                 _ => false,
             },
+            Range::U64(low, high) => match outer {
+                Range::U64(least, most) => u64s_in_order(least, low, high, most),
+                _ => false,
+            },
         }
     }
 
@@ -182,6 +198,10 @@ impl Range {
             },
             Range::F64(low, high) => match window {
                 Range::F64(least, most) => f64s_in_order(low, most, least, high),
+                _ => false,
+            },
+            Range::U64(low, high) => match window {
+                Range::U64(least, most) => u64s_in_order(low, most, least, high),
                 _ => false,
             },
         }
@@ -229,7 +249,7 @@ pub fn patterns_at(bytes: &[u8], at: usize, kind: Kind) -> Patterns
                 high: ends.high as u64,
             }
         }
-        Kind::Int64 | Kind::Float64 => {
+        Kind::Int64 | Kind::Float64 | Kind::Uint64 => {
             let ends = order::pair64_at(bytes, at);
             Patterns {
                 low: ends.low,
@@ -275,27 +295,33 @@ fn lower(p: u64) -> u32
 
 // Is a at most b, and c at most d?
 fn i32s_in_order(a: i32, b: i32, c: i32, d: i32) -> bool
-    ensures { λ r. ⌜ r ≡ (atMost Kind.Int32 (ofZ w32 a) (ofZ w32 b) && atMost Kind.Int32 (ofZ w32 c) (ofZ w32 d)) ⌝ }
+    ensures { λ r. ⌜ r ≡ (atMost (ordered Kind.Int32) (ofZ w32 a) (ofZ w32 b) && atMost (ordered Kind.Int32) (ofZ w32 c) (ofZ w32 d)) ⌝ }
 {
     order::i32_at_most(a, b) && order::i32_at_most(c, d)
 }
 
 fn i64s_in_order(a: i64, b: i64, c: i64, d: i64) -> bool
-    ensures { λ r. ⌜ r ≡ (atMost Kind.Int64 (ofZ w64 a) (ofZ w64 b) && atMost Kind.Int64 (ofZ w64 c) (ofZ w64 d)) ⌝ }
+    ensures { λ r. ⌜ r ≡ (atMost (ordered Kind.Int64) (ofZ w64 a) (ofZ w64 b) && atMost (ordered Kind.Int64) (ofZ w64 c) (ofZ w64 d)) ⌝ }
 {
     order::i64_at_most(a, b) && order::i64_at_most(c, d)
 }
 
 fn f32s_in_order(a: f32, b: f32, c: f32, d: f32) -> bool
-    ensures { λ r. ⌜ r ≡ (atMost Kind.Float32 (toBits binary32 a) (toBits binary32 b)
-        && atMost Kind.Float32 (toBits binary32 c) (toBits binary32 d)) ⌝ }
+    ensures { λ r. ⌜ r ≡ (atMost (ordered Kind.Float32) (toBits binary32 a) (toBits binary32 b)
+        && atMost (ordered Kind.Float32) (toBits binary32 c) (toBits binary32 d)) ⌝ }
 {
     order::f32_at_most(a, b) && order::f32_at_most(c, d)
 }
 
 fn f64s_in_order(a: f64, b: f64, c: f64, d: f64) -> bool
-    ensures { λ r. ⌜ r ≡ (atMost Kind.Float64 (toBits binary64 a) (toBits binary64 b)
-        && atMost Kind.Float64 (toBits binary64 c) (toBits binary64 d)) ⌝ }
+    ensures { λ r. ⌜ r ≡ (atMost (ordered Kind.Float64) (toBits binary64 a) (toBits binary64 b)
+        && atMost (ordered Kind.Float64) (toBits binary64 c) (toBits binary64 d)) ⌝ }
 {
     order::f64_at_most(a, b) && order::f64_at_most(c, d)
+}
+
+fn u64s_in_order(a: u64, b: u64, c: u64, d: u64) -> bool
+    ensures { λ r. ⌜ r ≡ (atMost (ordered Kind.Uint64) a b && atMost (ordered Kind.Uint64) c d) ⌝ }
+{
+    order::u64_at_most(a, b) && order::u64_at_most(c, d)
 }

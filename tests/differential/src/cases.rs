@@ -1,6 +1,6 @@
 //! Inputs, made from a seed and a number.
 
-use crate::rules::{self, limits, Description, FLOAT32, FLOAT64, INT32, INT64, KINDS};
+use crate::rules::{self, limits, Description, FLOAT32, FLOAT64, INT32, INT64, KINDS, UINT64};
 
 #[derive(Clone, Debug)]
 pub enum Case {
@@ -45,7 +45,7 @@ impl Chance {
     }
 }
 
-/// One end of a range as its bytes: small whole numbers mostly, the kind's own edges now and then.
+/// One end of a range as its bytes: small whole numbers mostly, the kind's own edges now and then. Those of uint64 lie around 2^63.
 fn end(c: &mut Chance, kind: u8, x: i64) -> Vec<u8> {
     let edge = c.one_in(60);
     match kind {
@@ -57,6 +57,8 @@ fn end(c: &mut Chance, kind: u8, x: i64) -> Vec<u8> {
         k if k == FLOAT32.number => (x as f32 / 2.0).to_le_bytes().to_vec(),
         k if k == FLOAT64.number && edge => c.of(&[0.0f64, -0.0, f64::INFINITY, f64::NEG_INFINITY, 5e-324, -5e-324]).to_le_bytes().to_vec(),
         k if k == FLOAT64.number => (x as f64 / 2.0).to_le_bytes().to_vec(),
+        k if k == UINT64.number && edge => c.of(&[0, u64::MAX, 1 << 63, (1 << 63) - 1]).to_le_bytes().to_vec(),
+        k if k == UINT64.number => (1u64 << 63).wrapping_add_signed(x).to_le_bytes().to_vec(),
         k => panic!("{k} is no kind"),
     }
 }
@@ -90,17 +92,16 @@ fn some_kind(c: &mut Chance) -> u8 {
     c.of(&KINDS).number
 }
 
-/// Numbers that are no kind's.
-fn no_kinds() -> [u8; 3] {
-    let past = KINDS.iter().map(|kind| kind.number).max().unwrap() + 1;
-    [past, past + 1, 255]
+/// Numbers that are no kind's: those between the kinds' own, the next two, and the largest.
+fn no_kinds() -> Vec<u8> {
+    let most = KINDS.iter().map(|kind| kind.number).max().unwrap();
+    (0..=most + 2).chain([255]).filter(|number| rules::kind(*number).is_none()).collect()
 }
 
 /// The number of a kind, or one of none.
 fn any_number(c: &mut Chance) -> u8 {
     let mut numbers: Vec<u8> = KINDS.iter().map(|kind| kind.number).collect();
-    let [past, _, largest] = no_kinds();
-    numbers.extend([past, largest]);
+    numbers.extend(no_kinds());
     c.of(&numbers)
 }
 
@@ -559,6 +560,7 @@ pub fn make(c: &mut Chance) -> Case {
 pub enum Slip {
     Strict,
     Unsigned,
+    Signed,
     FullRows,
     Uncounted,
     LastExtent,
@@ -574,7 +576,7 @@ pub enum Slip {
 /// What a library with this slip would answer, where the slip has a say in the case.
 pub fn wrong(case: &Case, slip: Slip) -> Option<(Vec<u64>, Vec<u32>)> {
     match (case, slip) {
-        (Case::Query { d, tiles, tree, kinds, ends, room }, Slip::Strict | Slip::Unsigned | Slip::FullRows | Slip::Uncounted) => {
+        (Case::Query { d, tiles, tree, kinds, ends, room }, Slip::Strict | Slip::Unsigned | Slip::Signed | Slip::FullRows | Slip::Uncounted) => {
             rules::query(d, *tiles, tree, kinds, ends).ok()?;
             let s = rules::shape(d, *tiles, tree).ok()?;
             let w = rules::window_of(kinds, ends);
@@ -646,6 +648,7 @@ fn slipped(
     let hit = match slip {
         Slip::Strict => here.iter().zip(w).all(|(b, q)| !q.1.at_most(b.0) && !b.1.at_most(q.0)),
         Slip::Unsigned => here.iter().zip(w).all(|(b, q)| below_unsigned(b.0, q.1) && below_unsigned(q.0, b.1)),
+        Slip::Signed => here.iter().zip(w).all(|(b, q)| below_signed(b.0, q.1) && below_signed(q.0, b.1)),
         _ => rules::meets(&here, w),
     };
     if !hit {
@@ -670,6 +673,13 @@ fn slipped(
 fn below_unsigned(a: rules::End, b: rules::End) -> bool {
     match (a, b) {
         (rules::End::Int(x), rules::End::Int(y)) => x as u64 <= y as u64,
+        _ => a.at_most(b),
+    }
+}
+
+fn below_signed(a: rules::End, b: rules::End) -> bool {
+    match (a, b) {
+        (rules::End::Unsigned(x), rules::End::Unsigned(y)) => x as i64 <= y as i64,
         _ => a.at_most(b),
     }
 }

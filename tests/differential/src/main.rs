@@ -24,6 +24,7 @@ use right::right;
 fn slips(seed: u64) {
     let strict = |case: &Case| cases::wrong(case, cases::Slip::Strict);
     let unsigned = |case: &Case| cases::wrong(case, cases::Slip::Unsigned);
+    let signed = |case: &Case| cases::wrong(case, cases::Slip::Signed);
     let full_rows = |case: &Case| cases::wrong(case, cases::Slip::FullRows);
     let uncounted = |case: &Case| cases::wrong(case, cases::Slip::Uncounted);
     let last_extent = |case: &Case| cases::wrong(case, cases::Slip::LastExtent);
@@ -34,9 +35,10 @@ fn slips(seed: u64) {
     let all_read = |case: &Case| cases::wrong(case, cases::Slip::AllRead);
     let miss_not_read = |case: &Case| cases::wrong(case, cases::Slip::MissNotRead);
     let no_open_window = |case: &Case| cases::wrong(case, cases::Slip::NoOpenWindow);
-    let all: [(&str, &dyn Fn(&Case) -> Option<(Vec<u64>, Vec<u32>)>); 12] = [
+    let all: [(&str, &dyn Fn(&Case) -> Option<(Vec<u64>, Vec<u32>)>); 13] = [
         ("strict comparison", &strict),
         ("int32 compared as unsigned", &unsigned),
+        ("uint64 compared as signed", &signed),
         ("full rows only", &full_rows),
         ("a look not counted inside the window", &uncounted),
         ("the last extent as the next offset", &last_extent),

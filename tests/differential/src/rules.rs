@@ -12,8 +12,9 @@ pub const INT32: Kind = Kind { number: 0, range_bytes: 8, read: |end| End::Int(n
 pub const INT64: Kind = Kind { number: 1, range_bytes: 16, read: |end| End::Int(number(end, 0, 8) as i64) };
 pub const FLOAT32: Kind = Kind { number: 2, range_bytes: 8, read: |end| End::Single(f32::from_bits(number(end, 0, 4) as u32)) };
 pub const FLOAT64: Kind = Kind { number: 3, range_bytes: 16, read: |end| End::Double(f64::from_bits(number(end, 0, 8))) };
+pub const UINT64: Kind = Kind { number: 10, range_bytes: 16, read: |end| End::Unsigned(number(end, 0, 8)) };
 
-pub const KINDS: [Kind; 4] = [INT32, INT64, FLOAT32, FLOAT64];
+pub const KINDS: [Kind; 5] = [INT32, INT64, FLOAT32, FLOAT64, UINT64];
 
 /// The kind of a number, if it is one.
 pub fn kind(number: u8) -> Option<Kind> {
@@ -110,6 +111,7 @@ pub enum End {
     Int(i64),
     Single(f32),
     Double(f64),
+    Unsigned(u64),
 }
 
 impl End {
@@ -120,7 +122,7 @@ impl End {
 
     pub fn is_nan(self) -> bool {
         match self {
-            End::Int(_) => false,
+            End::Int(_) | End::Unsigned(_) => false,
             End::Single(x) => x.is_nan(),
             End::Double(x) => x.is_nan(),
         }
@@ -128,7 +130,7 @@ impl End {
 
     pub fn is_infinite(self) -> bool {
         match self {
-            End::Int(_) => false,
+            End::Int(_) | End::Unsigned(_) => false,
             End::Single(x) => x.is_infinite(),
             End::Double(x) => x.is_infinite(),
         }
@@ -139,6 +141,7 @@ impl End {
             (End::Int(a), End::Int(b)) => a <= b,
             (End::Single(a), End::Single(b)) => a <= b,
             (End::Double(a), End::Double(b)) => a <= b,
+            (End::Unsigned(a), End::Unsigned(b)) => a <= b,
             _ => false,
         }
     }

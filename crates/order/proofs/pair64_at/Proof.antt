@@ -15,12 +15,7 @@ returns-2 c =
     let a = c .before .before .before .args in
     not-there (a .s .now) (a .at) 8 (omega arith)
 
-returns-3 : tie.Need-returns-3
-returns-3 c =
-    let a = c .before .before .args in
-    not-there (a .s .now) (a .at) 8 (omega arith)
-
 pub pair64-at-spec : {M : Type 1} → statement M
 pair64-at-spec =
     tie.close
-    (tie.spec (λ c κs. search needs) (λ c. search needs) (λ c κs. search needs) returns returns-2 returns-3)
+    (tie.spec (λ c κs. search needs) (λ c κs. search needs) (λ c. search needs) (λ c κs. search needs) returns returns-2)

@@ -6,7 +6,7 @@ use native.Mathlib.Omega.{arith}
 use lib.ListN.{length, take, drop}
 use borrow.Author.Needs.{needs}
 use Rattle.description.specs.declared.Kind.{Kind}
-use Rattle.description.specs.declared.Kind.the-variants.{Int32, Int64, Float32, Float64}
+use Rattle.description.specs.declared.Kind.the-variants.{Int32, Int64, Float32, Float64, Uint64}
 use Rattle.description.specs.Kinds.{rangeBytes}
 use Rattle.ranges.specs.declared.Range.{Range}
 use Rattle.ranges.specs.Ranges.{rangeAt}
@@ -43,6 +43,11 @@ part-read-end-4 c =
     let s = c .before .before .before in
     omega (arith, fits Float64 (s .args .bytes .now) (s .args .at) (c .enum-told4 .given .1) (s .pre))
 
+part-read-end-5 : tie.Need-part-read-end-5
+part-read-end-5 c =
+    let s = c .before .before .before in
+    omega (arith, fits Uint64 (s .args .bytes .now) (s .args .at) (c .enum-told5 .given .1) (s .pre))
+
 returns : tie.Need-returns
 returns c =
     let t = c .before .before in
@@ -70,6 +75,13 @@ returns-4 c =
     let s = t .before .before .before in
     let at = s .args .at in
     from-part Float64 (s .args .bytes .now) at (t .enum-told4 .given .1) (s .pre) (at + 16 - at) (omega arith) (c .read4 .ensures)
+
+returns-5 : tie.Need-returns-5
+returns-5 c =
+    let t = c .before .before in
+    let s = t .before .before .before in
+    let at = s .args .at in
+    from-part Uint64 (s .args .bytes .now) at (t .enum-told5 .given .1) (s .pre) (at + 16 - at) (omega arith) (c .read5 .ensures)
 
 pub read-side-spec : {M : Type 1} → statement M
 read-side-spec =
@@ -99,7 +111,14 @@ read-side-spec =
     (λ c. search needs)
     part-read-end-4
     (λ c κs. search needs)
+    (λ c. search needs)
+    (λ c. search needs)
+    (λ c. search needs)
+    (λ c. search needs)
+    part-read-end-5
+    (λ c κs. search needs)
     returns
     returns-2
     returns-3
-    returns-4)
+    returns-4
+    returns-5)

@@ -4,7 +4,7 @@ use mathlib.Core.List.{[], _∷_}
 use borrow.Author.Needs.{needs}
 use mir.Syntax.{w32, w64}
 use Rattle.description.specs.declared.Kind.the-variants.{Int32, Int64}
-use Rattle.description.specs.Kinds.{atMost}
+use Rattle.description.specs.Kinds.{ordered, atMost}
 use Rattle.ranges.specs.Ranges.{endsOf, meets}
 use Rattle.ranges.proofs.Comparing.{touching, of-one, of-others, passed}
 use Rattle.ranges.proofs.Range.meets.Statement.{statement}
@@ -17,11 +17,11 @@ returns c =
     let q = c .before .before .window .given in
     let f = c .before .before .before .before .known-told .given in
     let g = c .before .known-told2 .given in
-    of-one touching _ _ _ (r .1) _ (q .1) (passed w32 (atMost Int32) (r .0 .0) (q .0 .1 .0) (q .0 .0) (r .0 .1 .0) (f .0 .1) (g .1 .0 .1) (g .0 .1) (f .1 .0 .1) (c .i32s-in-order .ensures))
+    of-one touching _ _ _ (r .1) _ (q .1) (passed w32 (atMost (ordered Int32)) (r .0 .0) (q .0 .1 .0) (q .0 .0) (r .0 .1 .0) (f .0 .1) (g .1 .0 .1) (g .0 .1) (f .1 .0 .1) (c .i32s-in-order .ensures))
 
 returns-2 : tie.Need-returns-2
 unfolding meets
-returns-2 c = of-others touching _ _ _ (c .before .before .self .given .1) (1 ∷ 2 ∷ 3 ∷ []) tt (c .match2 .keys2)
+returns-2 c = of-others touching _ _ _ (c .before .before .self .given .1) (1 ∷ 2 ∷ 3 ∷ 4 ∷ []) tt (c .match2 .keys2)
 
 returns-3 : tie.Need-returns-3
 unfolding meets endsOf
@@ -30,11 +30,11 @@ returns-3 c =
     let q = c .before .before .window2 .given in
     let f = c .before .before .before .before .known-told3 .given in
     let g = c .before .known-told4 .given in
-    of-one touching _ _ _ (r .1) _ (q .1) (passed w64 (atMost Int64) (r .0 .0) (q .0 .1 .0) (q .0 .0) (r .0 .1 .0) (f .0 .1) (g .1 .0 .1) (g .0 .1) (f .1 .0 .1) (c .i64s-in-order .ensures))
+    of-one touching _ _ _ (r .1) _ (q .1) (passed w64 (atMost (ordered Int64)) (r .0 .0) (q .0 .1 .0) (q .0 .0) (r .0 .1 .0) (f .0 .1) (g .1 .0 .1) (g .0 .1) (f .1 .0 .1) (c .i64s-in-order .ensures))
 
 returns-4 : tie.Need-returns-4
 unfolding meets
-returns-4 c = of-others touching _ _ _ (c .before .before .self2 .given .1) (0 ∷ 2 ∷ 3 ∷ []) tt (c .match3 .keys2)
+returns-4 c = of-others touching _ _ _ (c .before .before .self2 .given .1) (0 ∷ 2 ∷ 3 ∷ 4 ∷ []) tt (c .match3 .keys2)
 
 returns-5 : tie.Need-returns-5
 unfolding meets endsOf
@@ -45,7 +45,7 @@ returns-5 c =
 
 returns-6 : tie.Need-returns-6
 unfolding meets
-returns-6 c = of-others touching _ _ _ (c .before .before .self3 .given .1) (0 ∷ 1 ∷ 3 ∷ []) tt (c .match4 .keys2)
+returns-6 c = of-others touching _ _ _ (c .before .before .self3 .given .1) (0 ∷ 1 ∷ 3 ∷ 4 ∷ []) tt (c .match4 .keys2)
 
 returns-7 : tie.Need-returns-7
 unfolding meets endsOf
@@ -56,12 +56,26 @@ returns-7 c =
 
 returns-8 : tie.Need-returns-8
 unfolding meets
-returns-8 c = of-others touching _ _ _ (c .before .before .self4 .given .1) (0 ∷ 1 ∷ 2 ∷ []) tt (c .match5 .keys2)
+returns-8 c = of-others touching _ _ _ (c .before .before .self4 .given .1) (0 ∷ 1 ∷ 2 ∷ 4 ∷ []) tt (c .match5 .keys2)
+
+returns-9 : tie.Need-returns-9
+unfolding meets endsOf
+returns-9 c =
+    let r = c .before .before .before .before .before .self5 .given in
+    let q = c .before .before .window5 .given in
+    of-one touching _ _ _ (r .1) _ (q .1) (c .u64s-in-order .ensures)
+
+returns-10 : tie.Need-returns-10
+unfolding meets
+returns-10 c = of-others touching _ _ _ (c .before .before .self5 .given .1) (0 ∷ 1 ∷ 2 ∷ 3 ∷ []) tt (c .match6 .keys2)
 
 pub meets-spec : {M : Type 1} → statement M
 meets-spec =
     tie.close
     (tie.spec
+    (λ c. search needs)
+    (λ c. search needs)
+    (λ c κs. search needs)
     (λ c. search needs)
     (λ c. search needs)
     (λ c κs. search needs)
@@ -81,4 +95,6 @@ meets-spec =
     returns-5
     returns-6
     returns-7
-    returns-8)
+    returns-8
+    returns-9
+    returns-10)

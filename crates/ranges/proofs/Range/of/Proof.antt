@@ -3,8 +3,8 @@ use mathlib.Core.Path.{sym, ap, _∙_}
 use borrow.Author.Needs.{needs}
 use lib.Ieee.{binary32, binary64, ofBits}
 use mir.Syntax.{w32, w64}
-use Rattle.description.specs.declared.Kind.the-variants.{Int64, Float64}
-use Rattle.ranges.specs.declared.Range.the-variants.{I32, I64, F32, F64}
+use Rattle.description.specs.declared.Kind.the-variants.{Int64, Float64, Uint64}
+use Rattle.ranges.specs.declared.Range.the-variants.{I32, I64, F32, F64, U64}
 use Rattle.ranges.specs.Ranges.{fitted, rangeOf}
 use Rattle.ranges.proofs.Judging.{when-known}
 use Rattle.ranges.proofs.Reading.{int-held, fitted-same}
@@ -41,6 +41,13 @@ returns-4 c =
     let high = c .f64-of2 .ensures ∙ ap (ofBits binary64) (sym (fitted-same Float64 (g .args .high) (g .fits .high .fits))) in
     when-known (λ k. rangeOf k (fitted k (g .args .low)) (fitted k (g .args .high))) (t .enum-told4 .given .1) (λ i. F64 (low i) (high i))
 
+returns-5 : tie.Need-returns-5
+returns-5 c =
+    let g = c .before .before in
+    let low = sym (fitted-same Uint64 (g .args .low) (g .fits .low .fits)) in
+    let high = sym (fitted-same Uint64 (g .args .high) (g .fits .high .fits)) in
+    when-known (λ k. rangeOf k (fitted k (g .args .low)) (fitted k (g .args .high))) (c .enum-told5 .given .1) (λ i. U64 (low i) (high i))
+
 pub of-spec : {M : Type 1} → statement M
 of-spec =
     tie.close
@@ -61,7 +68,9 @@ of-spec =
     (λ c. search needs)
     (λ c κs. search needs)
     (λ c κs. search needs)
+    (λ c. search needs)
     returns
     returns-2
     returns-3
-    returns-4)
+    returns-4
+    returns-5)

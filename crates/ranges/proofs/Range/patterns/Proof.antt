@@ -4,7 +4,7 @@ use borrow.Author.Needs.{needs}
 use lib.Ieee.{binary32, binary64, toBits}
 use mir.Syntax.{w32, w64}
 use mir.Val.{ofZ}
-use Rattle.description.specs.declared.Kind.the-variants.{Int32, Int64, Float32, Float64}
+use Rattle.description.specs.declared.Kind.the-variants.{Int32, Int64, Float32, Float64, Uint64}
 use Rattle.ranges.specs.Ranges.{endsOf}
 use Rattle.ranges.proofs.Comparing.{int-kept}
 use Rattle.ranges.proofs.Reading.{patterns-of}
@@ -37,6 +37,13 @@ returns-4 c =
     let s = c .before .before .before .self4 .given in
     patterns-of Float64 (toBits binary64 (s .0 .0)) (toBits binary64 (s .0 .1 .0)) _ _ (s .1) refl (c .before .f64-bits .ensures) (c .f64-bits2 .ensures) (c .before .f64-bits .ok) (c .f64-bits2 .ok)
 
+returns-5 : tie.Need-returns-5
+unfolding endsOf
+returns-5 c =
+    let s = c .before .self5 .given in
+    let f = c .known-told5 .given in
+    patterns-of Uint64 (s .0 .0) (s .0 .1 .0) _ _ (s .1) refl refl refl (f .0 .1) (f .1 .0 .1)
+
 pub patterns-spec : {M : Type 1} → statement M
 patterns-spec =
     tie.close
@@ -57,7 +64,9 @@ patterns-spec =
     (λ c. search needs)
     (λ c κs. search needs)
     (λ c κs. search needs)
+    (λ c. search needs)
     returns
     returns-2
     returns-3
-    returns-4)
+    returns-4
+    returns-5)

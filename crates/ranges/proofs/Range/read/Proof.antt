@@ -3,7 +3,7 @@ use mathlib.Core.Path.{ap, _∙_}
 use borrow.Author.Needs.{needs}
 use lib.Ieee.{binary32, binary64, ofBits}
 use mir.Syntax.{w32, w64}
-use Rattle.ranges.specs.declared.Range.the-variants.{I32, I64, F32, F64}
+use Rattle.ranges.specs.declared.Range.the-variants.{I32, I64, F32, F64, U64}
 use Rattle.ranges.specs.Ranges.{endsAt, rangeAt}
 use Rattle.ranges.proofs.Judging.{when-known}
 use Rattle.ranges.proofs.Reading.{int-held}
@@ -46,6 +46,14 @@ returns-4 c =
     let high = c .f64-of2 .ensures ∙ ap (ofBits binary64) (a .pair64-at2 .ensures .1) in
     when-known (λ k. rangeAt k (g .bytes .now) (g .at)) (a .before .enum-told4 .given .1) (λ i. F64 (low i) (high i))
 
+returns-5 : tie.Need-returns-5
+unfolding endsAt
+returns-5 c =
+    let g = c .before .before .before .before .args in
+    let low = c .pair64-at3 .ensures .0 in
+    let high = c .pair64-at3 .ensures .1 in
+    when-known (λ k. rangeAt k (g .bytes .now) (g .at)) (c .before .enum-told5 .given .1) (λ i. U64 (low i) (high i))
+
 pub read-spec : {M : Type 1} → statement M
 read-spec =
     tie.close
@@ -66,7 +74,10 @@ read-spec =
     (λ c κs. search needs)
     (λ c κs. search needs)
     (λ c κs. search needs)
+    (λ c. search needs)
+    (λ c κs. search needs)
     returns
     returns-2
     returns-3
-    returns-4)
+    returns-4
+    returns-5)

@@ -6,7 +6,7 @@ use lib.Ieee.{binary32, binary64, toBits}
 use mir.Syntax.{w32, w64}
 use mir.Val.{ofZ}
 use Rattle.order.specs.Key.{floatAtMost, signedAtMost}
-use Rattle.description.specs.declared.Kind.the-variants.{Int32, Int64, Float32, Float64}
+use Rattle.description.specs.declared.Kind.the-variants.{Int32, Int64, Float32, Float64, Uint64}
 use Rattle.description.specs.Kinds.{key, isNan, isInfinite, atMost}
 use Rattle.description.proofs.Patterns.{as-passed}
 use Rattle.ranges.specs.Ranges.{endsOf, verdict}
@@ -82,6 +82,13 @@ returns-6 c =
     (n .before .before .if4 .left)
     (c .other-verdict2 .ensures))
 
+returns-7 : tie.Need-returns-7
+unfolding endsOf atMost isNan isInfinite key
+returns-7 c =
+    let s = c .before .before .before .self5 .given in
+    when-known (λ x. verdict (endsOf x) x) (s .1)
+    (verdict-by Uint64 (s .0 .0) (s .0 .1 .0) _ refl (c .before .u64-at-most .ensures) refl refl (c .finite-verdict3 .ensures))
+
 pub verdict-spec : {M : Type 1} → statement M
 verdict-spec =
     tie.close
@@ -110,7 +117,11 @@ verdict-spec =
     (λ c κs. search needs)
     (λ c κs. search needs)
     (λ c κs. search needs)
+    (λ c. search needs)
+    (λ c κs. search needs)
+    (λ c κs. search needs)
     returns-3
     returns-4
     returns-5
-    returns-6)
+    returns-6
+    returns-7)
