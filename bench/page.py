@@ -125,6 +125,16 @@ def batch_table(rows):
     return table(header, made)
 
 
+def parts_table(rows):
+    header = ["Kind", "D", "f", "n", "Bytes", "Block", "Parts", "Whole", "/ whole", "Rust", "/ Rust"]
+    made = []
+    for row in rows:
+        known = [row["kind"], row["D"], row["f"], row["n"], f"{float(row['bytes']):,.0f}", f"{int(row['block']):,}"]
+        parts, whole, rust = (float(row[name]) for name in ("parts ns", "whole ns", "rust ns"))
+        made.append([*known, short(parts), short(whole), short(parts / whole), short(rust), short(parts / rust)])
+    return table(header, made)
+
+
 def python_table(rows):
     header = ["Window", "Found", "Looked", "Single", "List", "/ single", "Buffer", "/ single"]
     made = []
@@ -258,6 +268,9 @@ def page(tables, ratios):
         "## Lists",
         prose("Checking tile offsets, checking var offsets, and checking and adding up tile sizes."),
         pair_table({"list": "List", "n": "n"}, tables["list"], "entry"),
+        "## A tree in parts",
+        prose("A tree that arrives in blocks of a given size, beside opening the whole and beside plain Rust that takes the same blocks."),
+        parts_table(tables["parts"]),
         "## A batch of 32 windows",
         prose("One call for 32 windows beside 32 single calls of the library, through C; f = 16. Times are a window's."),
         batch_table(tables["batch"]),

@@ -77,6 +77,7 @@ extern "C" {
 #define TUSSOCKBELL_REFUSED_TILE_OFFSETS 18
 #define TUSSOCKBELL_REFUSED_WINDOW 19
 #define TUSSOCKBELL_REFUSED_SUM 20
+#define TUSSOCKBELL_REFUSED_WORK 21
 #define TUSSOCKBELL_REFUSED_RUNS 22
 #define TUSSOCKBELL_REFUSED_INFINITE 23
 
@@ -126,6 +127,8 @@ static inline const char *tussockbell_refusal_text(uint64_t number)
         return "the window's dimension number or a kind differs";
     case TUSSOCKBELL_REFUSED_SUM:
         return "tile sizes add up past 2^64 - 1";
+    case TUSSOCKBELL_REFUSED_WORK:
+        return "the work buffer is too short";
     case TUSSOCKBELL_REFUSED_RUNS:
         return "the answer run is not as long as the query run";
     case TUSSOCKBELL_REFUSED_INFINITE:
@@ -184,6 +187,10 @@ static inline const char *tussockbell_refusal_text(uint64_t number)
 #define TUSSOCKBELL_OPEN_LEVELS 5
 #define TUSSOCKBELL_OPEN_PLACES 6
 
+/* The state of tussockbell_parts_start, tussockbell_parts_block and tussockbell_parts_finish: what its places hold is the
+ * library's own business. */
+#define TUSSOCKBELL_PARTS_PLACES 201
+
 /* tussockbell_query */
 #define TUSSOCKBELL_QUERY_FOUND 2
 #define TUSSOCKBELL_QUERY_LOOKED 3
@@ -238,6 +245,28 @@ uint64_t tussockbell_total_cells(const uint8_t *kinds, size_t kinds_length, uint
 void tussockbell_open(const uint8_t *kinds, size_t kinds_length, uint64_t fields, uint64_t capacity, uint64_t file_size,
                       const uint8_t *footer, size_t footer_length, const uint8_t *tree, size_t tree_length,
                       uint64_t *answer /* [TUSSOCKBELL_OPEN_PLACES] */);
+
+/* A tree that arrives in blocks: a start, any number of blocks, a finish. They answer as tussockbell_open does of the
+ * footer and all bytes received, however these were cut, and keep no byte of a block but those of a number or a box that
+ * has come in part. State and work buffer must come back at each call as the last one left them, the buffer with the same
+ * length; what it holds at the first call does not matter. With any other state or buffer nothing is promised but that
+ * nothing outside of them is written and nothing outside of what is lent is read.
+ *
+ * A start takes the footer and the stated length of the tree. */
+void tussockbell_parts_start(const uint8_t *kinds, size_t kinds_length, uint64_t fields, uint64_t capacity, uint64_t file_size,
+                             const uint8_t *footer, size_t footer_length, uint64_t stated,
+                             uint64_t *state /* [TUSSOCKBELL_PARTS_PLACES] */);
+
+/* Takes a block, of any length. Bytes past the stated length are not read. The work buffer gets the boxes above the leaf
+ * level; where it has fewer bytes than they take, the answer is TUSSOCKBELL_REFUSED_WORK at place 0. */
+void tussockbell_parts_block(uint64_t *state /* [TUSSOCKBELL_PARTS_PLACES] */, uint8_t *work, size_t work_length,
+                             const uint8_t *block, size_t block_length);
+
+/* What all blocks came to, in the places of tussockbell_open. Bytes that fell short, or went past the stated length, are
+ * refused with TUSSOCKBELL_REFUSED_BYTES, at the bytes received or at the stated length, unless a fault of the footer or of
+ * the shape comes first. */
+void tussockbell_parts_finish(const uint64_t *state /* [TUSSOCKBELL_PARTS_PLACES] */, const uint8_t *work, size_t work_length,
+                              uint64_t *answer /* [TUSSOCKBELL_OPEN_PLACES] */);
 
 /* Which tiles does a window touch, in a tree of `tiles` tiles? The answer has how many were found and how many boxes
  * were looked at. The first places of `out` hold the first tiles found, as many as fit, and the others are

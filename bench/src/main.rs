@@ -35,7 +35,10 @@ const BATCH_FANOUT: usize = 16;
 const LEAST: Duration = Duration::from_micros(600);
 const TRIALS: usize = 3;
 
-const TABLES: [(&str, &str); 8] = [
+/// A tree in parts comes in blocks of these sizes.
+const BLOCKS: [usize; 3] = [4_096, 65_536, 1_048_576];
+
+const TABLES: [(&str, &str); 9] = [
     ("run", "rounds\tleast us\ttrials\tsmall windows\tlarge windows\tboost capacities\tlibspatialindex capacities"),
     (
         "query",
@@ -50,6 +53,7 @@ const TABLES: [(&str, &str); 8] = [
         "f\tn\tfound\tlooked\tours ns\tours ns/box\trust ns\trust ns/box\tboost ns\tboost capacity\tlibspatialindex ns\tlibspatialindex capacity",
     ),
     ("bytes", "bytes\tours ns\tours ns/byte\trust ns\trust ns/byte"),
+    ("parts", "kind\tD\tf\tn\tbytes\tblock\tparts ns\twhole ns\trust ns"),
     ("batch", "kind\tD\tn\twindow\tfound\tlooked\tbatch ns\tsingle ns"),
 ];
 
@@ -246,6 +250,14 @@ impl Opened {
         plain::open(&self.kinds, FIELDS, CAPACITY, self.file_size, &self.footer, black_box(&self.tree))
     }
 
+    fn in_parts(&self, block: usize, work: &mut [u8]) -> [u64; 6] {
+        peers::open_parts(&self.kinds, FIELDS, CAPACITY, self.file_size, &self.footer, black_box(&self.tree), block, work)
+    }
+
+    fn plain_parts(&self, block: usize, work: &mut [u8]) -> Result<(u64, u64, u64), plain::Refused> {
+        plain::open_parts(&self.kinds, FIELDS, CAPACITY, self.file_size, &self.footer, black_box(&self.tree), block, work)
+    }
+
     fn bytes(&self) -> usize {
         self.footer.len() + self.tree.len()
     }
@@ -333,6 +345,30 @@ impl Bench {
             let bytes = opened.bytes();
             self.rows.push(format!("open\t{kind}\t{d}\t{f}\t{n}\t{bytes}\t{}", beside(taken, bytes as f64)));
             self.ratio(format!("rust/open/{kind}/D={d}/f={f}/n={n}"), taken[0], taken[1]);
+        }
+    }
+
+    /// A tree in blocks, beside opening the whole and beside plain Rust that takes the same blocks.
+    fn parts_cases(&mut self, kinds: &[Kind], leaves: &[Cells]) {
+        let (kind, d, n) = (described(kinds), kinds.len(), leaves.len());
+        for f in FANOUTS {
+            let opened = Opened::new(kinds, leaves, f);
+            for block in BLOCKS {
+                let [mut ours, mut rust] = [opened.tree.clone(), opened.tree.clone()];
+                assert_eq!(opened.in_parts(block, &mut ours), opened.ours());
+                assert_eq!(opened.plain_parts(block, &mut rust).unwrap(), opened.plain().unwrap());
+                let runs: [Run; 3] = [
+                    Box::new(|| _ = black_box(opened.in_parts(block, &mut ours))),
+                    Box::new(|| _ = black_box(opened.ours())),
+                    Box::new(|| _ = black_box(opened.plain_parts(block, &mut rust))),
+                ];
+                let taken = measure(runs.into(), self.rounds);
+                let [parts, whole, plain] = [taken[0], taken[1], taken[2]];
+                let bytes = opened.bytes();
+                self.rows.push(format!("parts\t{kind}\t{d}\t{f}\t{n}\t{bytes}\t{block}\t{parts:.1}\t{whole:.1}\t{plain:.1}"));
+                self.ratio(format!("whole/parts/{kind}/D={d}/f={f}/n={n}/block={block}"), parts, whole);
+                self.ratio(format!("rust/parts/{kind}/D={d}/f={f}/n={n}/block={block}"), parts, plain);
+            }
         }
     }
 
@@ -446,6 +482,9 @@ fn main() {
                 eprintln!("bench: {} D={dimensions} n={tiles}", described(&kinds));
                 bench.query_cases(&kinds, &leaves);
                 bench.opening_cases(&kinds, &leaves);
+                if dimensions == 2 && tiles == TILES[1] {
+                    bench.parts_cases(&kinds, &leaves);
+                }
             }
         }
     }

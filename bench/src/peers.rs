@@ -32,6 +32,11 @@ type Free = unsafe extern "C" fn(*mut c_void);
 #[link(name = "spatialindex")]
 #[link(name = "stdc++")]
 unsafe extern "C" {
+    fn tussockbell_parts_start(
+        k: *const u8, kl: usize, fields: u64, capacity: u64, file: u64, f: *const u8, fl: usize, stated: u64, state: *mut u64,
+    );
+    fn tussockbell_parts_block(state: *mut u64, w: *mut u8, wl: usize, b: *const u8, bl: usize);
+    fn tussockbell_parts_finish(state: *const u64, w: *const u8, wl: usize, answer: *mut u64);
     fn boost_make_int32(d: usize, capacity: usize, ends: *const f64, boxes: usize, window_ends: *const f64, windows: usize) -> *mut c_void;
     fn boost_make_int64(d: usize, capacity: usize, ends: *const f64, boxes: usize, window_ends: *const f64, windows: usize) -> *mut c_void;
     fn boost_make_float32(d: usize, capacity: usize, ends: *const f64, boxes: usize, window_ends: *const f64, windows: usize) -> *mut c_void;
@@ -52,6 +57,24 @@ pub fn open(kinds: &[u8], fields: u64, capacity: u64, file_size: u64, footer: &[
             kinds.as_ptr(), kinds.len(), fields, capacity, file_size, footer.as_ptr(), footer.len(), tree.as_ptr(), tree.len(),
             answer.as_mut_ptr(),
         )
+    }
+    answer
+}
+
+/// The same of a tree in blocks of a given size.
+#[allow(clippy::too_many_arguments)]
+pub fn open_parts(
+    kinds: &[u8], fields: u64, capacity: u64, file_size: u64, footer: &[u8], tree: &[u8], size: usize, work: &mut [u8],
+) -> [u64; 6] {
+    let (mut state, mut answer) = ([0; 201], [0; 6]);
+    unsafe {
+        tussockbell_parts_start(
+            kinds.as_ptr(), kinds.len(), fields, capacity, file_size, footer.as_ptr(), footer.len(), tree.len() as u64, state.as_mut_ptr(),
+        );
+        for block in tree.chunks(size) {
+            tussockbell_parts_block(state.as_mut_ptr(), work.as_mut_ptr(), work.len(), block.as_ptr(), block.len());
+        }
+        tussockbell_parts_finish(state.as_ptr(), work.as_ptr(), work.len(), answer.as_mut_ptr());
     }
     answer
 }

@@ -46,6 +46,7 @@ mod refusal {
     pub const TILE_OFFSETS: u64 = 18;
     pub const WINDOW: u64 = 19;
     pub const SUM: u64 = 20;
+    pub const WORK: u64 = 21;
     /// A batch's, of which nothing stands here.
     #[allow(dead_code)]
     pub const RUNS: u64 = 22;
@@ -318,8 +319,20 @@ struct Shape {
 const MOST_LEVELS: usize = 25;
 
 fn shape(tiles: usize, width: usize, body: &[u8]) -> Result<Shape, Refused> {
-    if body.len() < 8 {
-        return refuse(refusal::BYTES, body.len());
+    let shape = front(tiles, width, body, body.len())?;
+    let starts = shape.counts[..shape.levels].iter().zip(shape.starts);
+    for (count, start) in starts {
+        if u64_at(body, start - 8) != *count as u64 {
+            return refuse(refusal::LEVELS, start - 8);
+        }
+    }
+    Ok(shape)
+}
+
+/// The shape before the counts, of a body of so many bytes.
+fn front(tiles: usize, width: usize, body: &[u8], length: usize) -> Result<Shape, Refused> {
+    if length < 8 {
+        return refuse(refusal::BYTES, length);
     }
     let fanout = u32_at(body, 0) as usize;
     if !limits::FANOUT.contains(&fanout) {
@@ -338,14 +351,11 @@ fn shape(tiles: usize, width: usize, body: &[u8]) -> Result<Shape, Refused> {
         return refuse(refusal::LEVELS, 4);
     }
     let boxes: usize = shape.counts.iter().sum();
-    if body.len() != 8 + 8 * shape.levels + width * boxes {
-        return refuse(refusal::BYTES, body.len());
+    if length != 8 + 8 * shape.levels + width * boxes {
+        return refuse(refusal::BYTES, length);
     }
     let mut at = 8;
     for level in 0..shape.levels {
-        if u64_at(body, at) != shape.counts[level] as u64 {
-            return refuse(refusal::LEVELS, at);
-        }
         shape.starts[level] = at + 8;
         at += 8 + width * shape.counts[level];
     }
@@ -505,6 +515,119 @@ fn boxes(d: &Description, tiles: usize, domain: &[u8], body: &[u8]) -> Result<(u
         }
     }
     Ok((tiles as u64, shape.fanout as u64, shape.levels as u64))
+}
+
+/// A tree that arrives in blocks: the first eight bytes, then level by level a count and its boxes, each item from the block where it is whole,
+/// and through `held` where it is cut. Inner boxes go to `work` in body order.
+struct Parts<'a> {
+    d: &'a Description,
+    domain: &'a [u8],
+    tiles: usize,
+    stated: usize,
+    shape: Option<Shape>,
+    work: &'a mut [u8],
+    held: [u8; 64],
+    kept: usize,
+    done: usize,
+    level: usize,
+    counted: bool,
+    index: usize,
+    parents: usize,
+    own: usize,
+    fault: Result<(), Refused>,
+}
+
+impl Parts<'_> {
+    fn block(&mut self, mut bytes: &[u8]) -> Result<(), Refused> {
+        let width = self.d.box_bytes();
+        while !bytes.is_empty() {
+            let item = if self.counted { width } else { 8 };
+            if self.kept > 0 || bytes.len() < item {
+                let more = bytes.len().min(item - self.kept);
+                self.held[self.kept..self.kept + more].copy_from_slice(&bytes[..more]);
+                (self.kept, bytes) = (self.kept + more, &bytes[more..]);
+                if self.kept == item {
+                    self.kept = 0;
+                    let held = self.held;
+                    self.items(&held[..item], width)?;
+                }
+            } else {
+                let left = self.shape.as_ref().map_or(0, |s| s.counts[self.level]) - self.index;
+                let whole = if self.counted { left.min(bytes.len() / width) * width } else { 8 };
+                self.items(&bytes[..whole], width)?;
+                bytes = &bytes[whole..];
+            }
+        }
+        Ok(())
+    }
+
+    fn items(&mut self, bytes: &[u8], width: usize) -> Result<(), Refused> {
+        let at = self.done;
+        self.done += bytes.len();
+        let Some(shape) = &self.shape else {
+            let shape = front(self.tiles, width, bytes, self.stated)?;
+            let inner: usize = shape.counts[..shape.levels - 1].iter().sum();
+            if self.work.len() < inner * width {
+                return refuse(refusal::WORK, 0);
+            }
+            self.shape = Some(shape);
+            return Ok(());
+        };
+        if !self.counted {
+            self.counted = true;
+            return if u64_at(bytes, 0) == shape.counts[self.level] as u64 { Ok(()) } else { refuse(refusal::LEVELS, at) };
+        }
+        if self.fault.is_ok() {
+            self.fault = self.rows(shape, bytes, at, width);
+        }
+        if self.level + 1 < shape.levels {
+            let to = self.own + self.index * width;
+            self.work[to..to + bytes.len()].copy_from_slice(bytes);
+        }
+        self.index += bytes.len() / width;
+        if self.index == shape.counts[self.level] && self.level + 1 < shape.levels {
+            (self.parents, self.own) = (self.own, self.own + self.index * width);
+            (self.level, self.index, self.counted) = (self.level + 1, 0, false);
+        }
+        Ok(())
+    }
+
+    fn rows(&self, shape: &Shape, mut bytes: &[u8], mut at: usize, width: usize) -> Result<(), Refused> {
+        if self.level == 0 {
+            return check_box(self.d.kinds(), bytes, at, self.domain, refusal::OUTSIDE_DOMAIN);
+        }
+        let (mut parent, mut left) = (self.index / shape.fanout, shape.fanout - self.index % shape.fanout);
+        while !bytes.is_empty() {
+            let (row, rest) = bytes.split_at(bytes.len().min(left * width));
+            let outer = &self.work[self.parents + parent * width..][..width];
+            for child in row.chunks_exact(width) {
+                check_box(self.d.kinds(), child, at, outer, refusal::OUTSIDE_PARENT)?;
+                at += width;
+            }
+            (parent, left, bytes) = (parent + 1, shape.fanout, rest);
+        }
+        Ok(())
+    }
+}
+
+/// Tiles, fanout and levels of a tree in blocks of a given size.
+#[allow(clippy::too_many_arguments)]
+#[inline(never)]
+pub fn open_parts(
+    kinds: &[u8], fields: u64, capacity: u64, file_size: u64, footer_bytes: &[u8], tree: &[u8], size: usize, work: &mut [u8],
+) -> Result<(u64, u64, u64), Refused> {
+    let d = Description::new(kinds, fields, capacity)?;
+    let (tiles, domain) = footer(&d, file_size, footer_bytes)?;
+    let mut parts = Parts {
+        d: &d, domain: &footer_bytes[domain..], tiles: tiles as usize, stated: tree.len(), shape: None, work, held: [0; 64], kept: 0, done: 0,
+        level: 0, counted: false, index: 0, parents: 0, own: 0, fault: Ok(()),
+    };
+    for block in tree.chunks(size) {
+        parts.block(block)?;
+    }
+    parts.fault?;
+    let shape = parts.shape.expect("a body has eight bytes");
+    Ok((tiles, shape.fanout as u64, shape.levels as u64))
 }
 
 fn entries(tiles: u64, list: &[u8]) -> Result<impl Iterator<Item = (usize, u64)> + '_, Refused> {

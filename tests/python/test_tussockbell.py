@@ -496,6 +496,11 @@ class Refusals(unittest.TestCase):
         def tree(at, new):
             return lambda: tb.open_tree(ONE, SAMPLE_SIZE, foot, changed(body, at, new))
 
+        def in_parts():
+            parts = tb.TreeParts(ONE, SAMPLE_SIZE, foot, 80, bytearray(23))
+            parts.write(body)
+            parts.finish()
+
         cases = {
             1: (lambda: tb.read_footer(tb.Description([], 1, 32), SAMPLE_SIZE, foot), 0, 0),
             2: (lambda: tb.open_tree(ONE, SAMPLE_SIZE, foot, body[:79]), 79, 1),
@@ -517,6 +522,7 @@ class Refusals(unittest.TestCase):
             18: (lambda: tb.tile_offsets(3, 250, offsets), 24, 0),
             19: (lambda: tb.query(ONE, 3, body, [(0, 1), (0, 1)]), 0, 0),
             20: (lambda: tb.tile_sizes(2, pieces.entries([MOST, 1])), 16, 0),
+            21: (in_parts, 0, 0),
             22: (lambda: tb.query_batch(ONE, 3, body, bytes(9)), 0, 0),
             23: (lambda: tb.read_footer(real, SAMPLE_SIZE, changed(foot, 20, infinite)), 20, 0),
         }
@@ -951,7 +957,7 @@ class Header(unittest.TestCase):
         """Parameters and results as the header declares them."""
         types = {"uint64_t": ctypes.c_uint64, "size_t": ctypes.c_size_t, "void": None}
         declared = re.findall(r"^(\w+) tussockbell_(\w+)\(([^;{]*)\);", self.header, re.M)
-        self.assertEqual(len(declared), 15)
+        self.assertEqual(len(declared), 18)
         asked = {name for name in vars(tb) if name.startswith("_c_")}
         self.assertEqual({"_c_" + name for _, name, _ in declared} - asked, {"_c_extent", "_c_var_extent", "_c_report"})
         for result, name, parameters in declared:

@@ -60,6 +60,7 @@ class Refusal:
     TILE_OFFSETS = 18
     WINDOW = 19
     SUM = 20
+    WORK = 21
     RUNS = 22
     INFINITE = 23
 
@@ -259,6 +260,39 @@ def open_tree(d, file_size, footer_data, body):
             elif not inside(box, stored_box(d, body, starts[level - 1] + k // f * b)):
                 raise Refused(Refusal.OUTSIDE_PARENT, at, 1)
     return {"tiles": n, "fanout": f, "levels": len(counts)}
+
+
+def shown(d, n, stated, room, came):
+    """What the bytes of a body that came show of its shape, and of the work buffer's room."""
+    if stated < 8:
+        raise Refused(Refusal.BYTES, stated, 1)
+    if len(came) < 4:
+        return
+    f = number(came, 0, 4)
+    if not allowed("fanout", f):
+        raise Refused(Refusal.FANOUT, 0, 1)
+    counts = level_counts(n, f)
+    if len(came) >= 8 and number(came, 4, 4) != len(counts):
+        raise Refused(Refusal.LEVELS, 4, 1)
+    b = d.box_bytes()
+    if stated != 8 + 8 * len(counts) + b * sum(counts):
+        raise Refused(Refusal.BYTES, stated, 1)
+    if room < b * sum(counts[:-1]):
+        raise Refused(Refusal.WORK, 0)
+    at = 8
+    for count in counts:
+        if at + 8 <= len(came) and number(came, at, 8) != count:
+            raise Refused(Refusal.LEVELS, at, 1)
+        at += 8 + b * count
+
+
+def open_parts(d, file_size, footer_data, stated, room, got):
+    """A body of a stated length, of which these bytes came, with a work buffer of so much room."""
+    n = footer(d, file_size, footer_data)["tiles"]
+    shown(d, n, stated, room, got[:stated])
+    if len(got) != stated:
+        raise Refused(Refusal.BYTES, min(len(got), stated), 1)
+    return open_tree(d, file_size, footer_data, got)
 
 
 # ---- window query

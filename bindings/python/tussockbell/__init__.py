@@ -41,7 +41,7 @@ from dataclasses import dataclass, field
 from typing import Any, NamedTuple, Optional, Protocol, SupportsFloat, SupportsIndex, Tuple, Union, overload
 
 __all__ = [
-    "Description", "Footer", "Hit", "Offsets", "Refused", "Tree", "Window",
+    "Description", "Footer", "Hit", "Offsets", "Opened", "Refused", "Tree", "TreeParts", "Window",
     "box_test", "open_tree", "query", "query_batch", "read_footer", "tile_offsets", "tile_sizes", "var_tile_offsets",
 ]
 
@@ -94,6 +94,7 @@ _TEXTS = {
     18: "tile offsets break their rule",
     19: "the window's dimension number or a kind differs",
     20: "tile sizes add up past 2^64 - 1",
+    21: "the work buffer is too short",
     22: "the answer run is not as long as the query run",
     23: "a stored range end is infinite",
 }
@@ -103,6 +104,7 @@ _FOOTER_DOMAIN, _DOMAIN_KIND, _DOMAIN_LOW, _DOMAIN_HIGH, _DOMAIN_PLACES = 14, 0,
 _FOOTER_LIST_PLACES, _FOOTER_PLACES = 64, 730
 _NAME_START, _NAME_LENGTH, _NAME_PLACES = 0, 1, 2
 _OPEN_WHICH, _OPEN_TILES, _OPEN_FANOUT, _OPEN_LEVELS, _OPEN_PLACES = 2, 3, 4, 5, 6
+_PARTS_PLACES = 201
 _QUERY_FOUND, _QUERY_LOOKED, _QUERY_PLACES = 2, 3, 4
 _BATCH_WINDOWS, _BATCH_PLACES, _RECORD_USED, _RECORD_PLACES = 2, 3, 4, 5
 _BOX_TEST_MEETS, _BOX_TEST_READ, _BOX_TEST_PLACES = 2, 3, 4
@@ -153,6 +155,9 @@ _c_schema_name = _function("schema_name", [*_footer, _pointer])
 _c_cells = _function("cells", [*_footer, _u64], _u64)
 _c_total_cells = _function("total_cells", _footer, _u64)
 _c_open = _function("open", [*_footer, *_bytes, _pointer])
+_c_parts_start = _function("parts_start", [*_footer, _u64, _pointer])
+_c_parts_block = _function("parts_block", [_pointer, *_bytes, *_bytes])
+_c_parts_finish = _function("parts_finish", [_pointer, *_bytes, _pointer])
 _c_query = _function("query", [*_description, _u64, *_bytes, *_bytes, *_bytes, *_bytes, _pointer])
 _c_query_batch = _function("query_batch", [*_description, _u64, *_bytes, *_bytes, *_bytes, *_bytes, *_bytes, _pointer])
 _c_box_test = _function("box_test", [*_description, *_bytes, *_bytes, *_bytes, _pointer])
@@ -164,6 +169,7 @@ _c_sizes = _function("sizes", [_u64, *_bytes, _pointer])
 _FooterAnswer = _u64 * _FOOTER_PLACES
 _NameAnswer = _u64 * _NAME_PLACES
 _OpenAnswer = _u64 * _OPEN_PLACES
+_PartsState = _u64 * _PARTS_PLACES
 _QueryAnswer = _u64 * _QUERY_PLACES
 _BatchAnswer = _u64 * _BATCH_PLACES
 _BoxTestAnswer = _u64 * _BOX_TEST_PLACES
@@ -717,6 +723,95 @@ def open_tree(description: Description, file_size: SupportsIndex, footer: Bytes,
         _c_open(*description._given, _file_size(file_size), *_lent(first), *_lent(view), answer)
         _check(answer, answer[_OPEN_WHICH])
         return Tree(description, view, answer)
+
+
+class Opened(NamedTuple):
+    """What an accepted tree answers that arrived in parts."""
+
+    tiles: int
+    fanout: int
+    levels: int
+
+
+def _inner_bytes(width: int, tiles: int, fanout: int) -> int:
+    """The bytes of the boxes above the leaf level."""
+    boxes = 0
+    while fanout > 1 and tiles > 1:
+        tiles = -(-tiles // fanout)
+        boxes += tiles
+    return width * boxes
+
+
+class TreeParts:
+    """A tree that arrives in blocks, checked while it does: `write` each block, then `finish`.
+
+        parts = tb.TreeParts(d, file_size, footer_bytes, stated=length)
+        for block in blocks:
+            parts.write(block)
+        opened = parts.finish()  # or raises Refused, as open_tree of the whole would
+
+    The answer depends on the bytes alone, not on how they were cut. No block is kept: to ask windows of the tree, keep its
+    bytes, and open them with `open_tree` once all of them are there.
+
+    The boxes above the leaf level go to a work buffer. It is made as large as it has to be once the fanout is known, or is
+    lent as `work`: a writable buffer that nothing else may change until the finish. One that is too short is refused (21).
+    """
+
+    __slots__ = ("_state", "_work", "_head", "_tiles", "_width", "_answer")
+
+    def __init__(
+        self, description: Description, file_size: SupportsIndex, footer: Bytes, stated: SupportsIndex,
+        work: Optional[Union[bytearray, memoryview, mmap.mmap]] = None,
+    ) -> None:
+        self._state, self._head, self._answer = _PartsState(), bytearray(), None
+        self._work: Optional[memoryview] = None
+        with _lend(footer) as first:
+            given = (*description._given, _file_size(file_size), *_lent(first))
+            _c_parts_start(*given, _file_size(stated), self._state)
+            numbers = _FooterAnswer()
+            _c_footer(*given, numbers)
+        self._tiles = numbers[_FOOTER_NUMBERS["tiles"]]
+        self._width = sum(2 * _WIDTHS.get(kind, 0) for kind in description._given[0])
+        if work is not None:
+            view = memoryview(work)
+            if view.readonly or not view.c_contiguous:
+                raise TypeError("a work buffer is writable, and its bytes lie one after the other")
+            self._work = view.cast("B")
+
+    def write(self, block: Bytes) -> None:
+        """Takes one block, of any length."""
+        if self._answer is not None:
+            raise ValueError("the tree is finished")
+        with _lend(block) as view:
+            data = view.cast("B") if view.nbytes else view
+            if self._work is None and len(self._head) < 8:
+                # The first eight bytes are taken together, since they say how large the work buffer has to be.
+                first = 8 - len(self._head)
+                self._head += data[:first]
+                if len(self._head) < 8:
+                    return
+                self._take(self._head)
+                data = data[first:]
+            self._take(data)
+
+    def finish(self) -> Opened:
+        """What all blocks came to: tiles, fanout and levels, or `Refused`."""
+        if self._answer is None:
+            if self._work is None:
+                self._take(self._head)
+            self._answer = _OpenAnswer()
+            assert self._work is not None
+            _c_parts_finish(self._state, *_lent(self._work), self._answer)
+        _check(self._answer, self._answer[_OPEN_WHICH])
+        return Opened(self._answer[_OPEN_TILES], self._answer[_OPEN_FANOUT], self._answer[_OPEN_LEVELS])
+
+    def _take(self, data: Union[bytearray, memoryview]) -> None:
+        if self._work is None:
+            fanout = int.from_bytes(self._head[:4], "little") if len(self._head) >= 4 else 0
+            known = fanout if fanout <= 1024 else 0
+            self._work = memoryview(bytearray(_inner_bytes(self._width, self._tiles, known)))
+        with memoryview(data) as view:
+            _c_parts_block(self._state, *_lent(self._work), *_lent(view))
 
 
 class Offsets(Sequence[Tuple[int, int]]):

@@ -9,7 +9,7 @@
 use crate::batch::Record;
 use crate::places::{
     BATCH_PLACES, BOX_TEST_PLACES, EXTENT_PLACES, FOOTER_PLACES, NAME_PLACES, OFFSETS_PLACES, OPEN_PLACES,
-    QUERY_PLACES, RECORD_PLACES, SIZES_PLACES,
+    PARTS_PLACES, QUERY_PLACES, RECORD_PLACES, SIZES_PLACES,
 };
 use crate::{Description, Kind};
 
@@ -26,6 +26,11 @@ extern "C" {
     fn tussockbell_open(kinds: *const u8, kinds_length: usize, fields: u64, capacity: u64, file_size: u64,
                         footer: *const u8, footer_length: usize, tree: *const u8, tree_length: usize,
                         answer: *mut u64);
+    fn tussockbell_parts_start(kinds: *const u8, kinds_length: usize, fields: u64, capacity: u64, file_size: u64,
+                               footer: *const u8, footer_length: usize, stated: u64, state: *mut u64);
+    fn tussockbell_parts_block(state: *mut u64, work: *mut u8, work_length: usize, block: *const u8,
+                               block_length: usize);
+    fn tussockbell_parts_finish(state: *const u64, work: *const u8, work_length: usize, answer: *mut u64);
     fn tussockbell_query(kinds: *const u8, kinds_length: usize, fields: u64, capacity: u64, tiles: u64,
                          tree: *const u8, tree_length: usize, window_kinds: *const u8, window_kinds_length: usize,
                          window_ends: *const u8, window_ends_length: usize, out: *mut u32, out_length: usize,
@@ -96,6 +101,27 @@ pub(crate) fn open(asked: Asked, tree: &[u8]) -> [u64; OPEN_PLACES] {
     let mut answer = [0; OPEN_PLACES];
     // SAFETY: pointers and lengths of slices, and an answer array of the header's places.
     unsafe { with_footer!(tussockbell_open, asked, tree.as_ptr(), tree.len(), answer.as_mut_ptr()) };
+    answer
+}
+
+pub(crate) fn parts_start(asked: Asked, stated: u64) -> [u64; PARTS_PLACES] {
+    let mut state = [0; PARTS_PLACES];
+    // SAFETY: pointers and lengths of slices, and a state of the header's places.
+    unsafe { with_footer!(tussockbell_parts_start, asked, stated, state.as_mut_ptr()) };
+    state
+}
+
+pub(crate) fn parts_block(state: &mut [u64; PARTS_PLACES], work: &mut [u8], block: &[u8]) {
+    // SAFETY: a state of the header's places, and pointers and lengths of slices, the buffer lent to nobody else.
+    unsafe {
+        tussockbell_parts_block(state.as_mut_ptr(), work.as_mut_ptr(), work.len(), block.as_ptr(), block.len());
+    }
+}
+
+pub(crate) fn parts_finish(state: &[u64; PARTS_PLACES], work: &[u8]) -> [u64; OPEN_PLACES] {
+    let mut answer = [0; OPEN_PLACES];
+    // SAFETY: a state and an answer array of the header's places, and pointer and length of a slice.
+    unsafe { tussockbell_parts_finish(state.as_ptr(), work.as_ptr(), work.len(), answer.as_mut_ptr()) };
     answer
 }
 

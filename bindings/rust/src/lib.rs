@@ -6,6 +6,7 @@
 //!
 //! - [`read_footer`] reads the footer of `__fragment_metadata.tdb`: every number of it.
 //! - [`open_tree`] opens a footer and an R-tree together and checks every box; the [`Tree`] answers windows.
+//! - [`TreeParts`] checks a tree that arrives in blocks.
 //! - [`query`] answers a window over a tree's plain bytes, [`query_batch`] all windows of a batch in one call.
 //! - [`box_test`] tests one box against a window, and tells how many dimensions it read.
 //! - [`tile_offsets`], [`var_tile_offsets`] and [`tile_sizes`] read a field's lists.
@@ -44,6 +45,7 @@ mod batch;
 mod ffi;
 mod footer;
 mod lists;
+mod parts;
 mod places;
 mod ranges;
 mod refused;
@@ -52,6 +54,7 @@ mod tree;
 pub use batch::{query_batch, query_batch_bytes, Record};
 pub use footer::{read_footer, Footer};
 pub use lists::{tile_offsets, tile_sizes, var_tile_offsets, Extent, TileOffsets};
+pub use parts::{Opened, TreeParts};
 pub use ranges::{Description, Kind, Range};
 pub use refused::{Refused, Which};
 pub use tree::{box_test, open_tree, query, Answer, Tested, Tree};

@@ -73,6 +73,7 @@ refusals! {
     18 TILE_OFFSETS "tile offsets break their rule";
     19 WINDOW "the window's dimension number or a kind differs";
     20 SUM "tile sizes add up past 2^64 - 1";
+    21 WORK "the work buffer is too short";
     22 RUNS "the answer run is not as long as the query run";
     23 INFINITE "a stored range end is infinite";
 }

@@ -3,3 +3,4 @@ pub mod Runs
 pub mod Filled
 pub mod Checks
 pub mod Laid
+pub mod Written

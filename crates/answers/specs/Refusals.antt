@@ -90,6 +90,10 @@ window = 19
 abbrev pub sizesSum : ℕ
 sizesSum = 20
 
+-- the work buffer is too short
+abbrev pub work : ℕ
+work = 21
+
 -- the answer run is not as long as the query run
 abbrev pub runs : ℕ
 runs = 22

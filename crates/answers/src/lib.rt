@@ -51,6 +51,8 @@ impl Refusal {
 
     pub const SIZES_SUM: u64 = 20;
 
+    pub const WORK: u64 = 21;
+
     pub const RUNS: u64 = 22;
 
     pub const INFINITE: u64 = 23;

@@ -1,51 +1,12 @@
--- An answer array is written list after list from its first place on (`more`), until it holds those lists and nothing else (`whole`).
--- A list is written value by value: the values still to come over what stands there now are all values over what stood there first.
--- Assumes nothing.
-use Prim.Native.Nat.{ℕ, suc, _+_, _≤_, _<_}
-use mathlib.Core.Path.{_≡_, refl, ap, sym, _∙_}
-use mathlib.Core.List.{List, [], _∷_, _++_, append-nil}
-use native.Mathlib.Omega.{arith}
-use native.Mathlib.Numerals.{add-one}
-use lib.ListN.{length, getD, set, drop, length-append, drop-of-length-le}
-use lib.Seq.{sets, sets-eq, drop-cons, drop-length}
+-- How many places have a footer's numbers and its domain? Assumes nothing.
+use mathlib.Core.Path.{_≡_, refl}
+use mathlib.Core.List.{List}
+use lib.ListN.{length}
 use Rattle.answers.specs.Runs.{over}
-use Rattle.answers.proofs.Laid.{sets-append}
 use Rattle.boxes.specs.declared.Side.{Side}
 use Rattle.footer.specs.declared.Footer.{Footer}
 use Rattle.c_api.specs.Places.{numberPlaces, rangePlaces, domainPlaces}
 
--- one more value
-pub value-next : (answer vs : List ℕ) (at i : ℕ) → i < length vs
-    → sets (set answer (at + i) (getD vs i 0)) (at + (i + 1)) (drop (i + 1) vs) ≡ sets answer (at + i) (drop i vs)
-value-next answer vs at i h =
-    let p : at + (i + 1) ≡ suc (at + i) = omega arith in
-    rw (p, add-one i, drop-cons vs i 0 h)
-
--- and none
-pub values-done : (answer vs : List ℕ) (at i : ℕ) → length vs ≤ i → sets answer at (drop i vs) ≡ answer
-values-done answer vs at i h = rw (drop-of-length-le vs {i = i} h)
-
--- what an array holds that held l, after so many places were written
-pub record Written (l answer : List ℕ) (at : ℕ) (vs : List ℕ) : Type 0 where
-  pub holds : answer ≡ sets l 0 vs
-  pub long : length vs ≡ at
-
-pub begun : (l : List ℕ) → Written l l 0 []
-begun l = record { holds = refl; long = refl }
-
-pub more : {l answer next vs : List ℕ} {at m : ℕ} → Written l answer at vs → (ws : List ℕ) → next ≡ sets answer at ws → length ws ≡ m
-    → Written l next (at + m) (vs ++ ws)
-more {l} {answer} {next} {vs} {at} w ws e h = record {
-  holds = let p : 0 + length vs ≡ at = omega (arith, w .long) in rw (sets-append l 0 vs ws, ← (w .holds), p) e;
-  long = rw (length-append vs ws, w .long, h);
-}
-
-pub whole : {l answer vs : List ℕ} {at : ℕ} → Written l answer at vs → length l ≡ at → answer ≡ vs
-whole {l} {answer} {vs} w h =
-    let e : 0 + length vs ≡ length l = omega (arith, w .long) in
-    w .holds ∙ sets-eq vs l 0 (omega (arith, w .long)) ∙ rw (e, drop-length l) (append-nil vs)
-
--- how many places the numbers and the domain have
 pub numbers-long : (f : Footer) → length (numberPlaces f) ≡ 14
 unfolding numberPlaces
 numbers-long f = refl

@@ -41,12 +41,12 @@ moved-twice a s r = go (eqb (r .number) 0) refl
     go true e = rw e
     go false e = rw (e, add-assoc)
 
-moved-check : (a : ℕ) (t : Bool) (number s : ℕ) → 0 < number → moved a (check t number s) ≡ check t number (a + s)
+pub moved-check : (a : ℕ) (t : Bool) (number s : ℕ) → 0 < number → moved a (check t number s) ≡ check t number (a + s)
 moved-check a true number s some = rw (ne-eqb number 0 (λ h. omega arith))
 moved-check a false number s some = refl
 
 module _ (kinds : List Dimension) (m : ℕ) (outer : List ℕ) (number : ℕ) where
-  box-moved : (bytes : List ℕ) (a s : ℕ) → 0 < number
+  pub box-moved : (bytes : List ℕ) (a s : ℕ) → 0 < number
       → moved a (boxRefusal kinds m bytes outer number s) ≡ boxRefusal kinds m bytes outer number (a + s)
   unfolding boxRefusal
   box-moved bytes a s some =
@@ -78,7 +78,7 @@ module _ (kinds : List Dimension) (m : ℕ) (outer : List ℕ) (number : ℕ) wh
       (moved-place s most (rangesRefusal kinds m bytes 0) (fault-before kinds m bytes)))
       (check-place (not (boxInside kinds m bytes outer)) s most)
 
-  row-before : (row : List ℕ) → rowRefusal kinds m row outer number .place ≤ length row
+  pub row-before : (row : List ℕ) → rowRefusal kinds m row outer number .place ≤ length row
   unfolding rowRefusal
   row-before row =
       let b = sideStart kinds m in
@@ -88,14 +88,14 @@ module _ (kinds : List Dimension) (m : ℕ) (outer : List ℕ) (number : ℕ) wh
       omega (arith, box, mul-le-mul-right b high, div-mul-le-self (length row) b))
 
 -- a part of a part
-part-of-part : (l : List ℕ) (k b m : ℕ) → k + b ≤ m → take b (drop k (take m l)) ≡ take b (drop k l)
+pub part-of-part : (l : List ℕ) (k b m : ℕ) → k + b ≤ m → take b (drop k (take m l)) ≡ take b (drop k l)
 part-of-part l zero b m h = take-take b m l (omega arith)
 part-of-part l (suc k) b zero h = absurd (omega arith)
 part-of-part [] (suc k) b (suc m) h = refl
 part-of-part (x ∷ l) (suc k) b (suc m) h = part-of-part l k b m (omega arith)
 
 -- two runs that say the same, one of them further on
-each-from : (g h : ℕ → Refusal) (a b m : ℕ) → ((i : ℕ) → i < m → g (a + i) ≡ h (b + i)) → each g a m ≡ each h b m
+pub each-from : (g h : ℕ → Refusal) (a b m : ℕ) → ((i : ℕ) → i < m → g (a + i) ≡ h (b + i)) → each g a m ≡ each h b m
 unfolding over
 each-from g h a b zero p = refl
 each-from g h a b (suc m) p =

@@ -38,6 +38,15 @@ impl Space {
         self.at_end = !self.at_end;
     }
 
+    /// A copy of bytes in a run of its own, the last one, which is free again with each call.
+    pub fn again_with(&mut self, data: &[u8]) -> *const u8 {
+        assert!(data.len() <= ROOM);
+        let run = self.runs[self.runs.len() - 1];
+        let place = if self.at_end { unsafe { run.add(ROOM - data.len()) } } else { run };
+        unsafe { std::ptr::copy_nonoverlapping(data.as_ptr(), place, data.len()) };
+        place
+    }
+
     /// `length` bytes, 4-byte aligned where they start at an edge, or that end at one.
     pub fn lend(&mut self, length: usize) -> *mut u8 {
         assert!(length <= ROOM);

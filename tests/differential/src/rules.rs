@@ -56,6 +56,7 @@ pub mod refusal {
     pub const TILE_OFFSETS: u64 = 18;
     pub const WINDOW: u64 = 19;
     pub const SUM: u64 = 20;
+    pub const WORK: u64 = 21;
     pub const RUNS: u64 = 22;
     pub const INFINITE: u64 = 23;
 }
@@ -325,6 +326,55 @@ pub fn shape(d: &Description, n: u64, body: &[u8]) -> Answer<Shape> {
 pub fn open(d: &Description, file_size: u64, foot: &[u8], body: &[u8]) -> Answer<(u64, u64, u64)> {
     let f = footer(d, file_size, foot)?;
     second(d, &f, body).map_err(|r| Refused { which: 1, ..r })
+}
+
+/// A body of a stated length, of which these bytes came, with a work buffer of so much room.
+pub fn parts(d: &Description, file_size: u64, foot: &[u8], stated: u64, room: usize, got: &[u8]) -> Answer<(u64, u64, u64)> {
+    let f = footer(d, file_size, foot)?;
+    let came = &got[..got.len().min(usize::try_from(stated).unwrap_or(usize::MAX))];
+    shown(d, f.tiles, stated, room, came).map_err(|r| Refused { which: u64::from(r.number != refusal::WORK), ..r })?;
+    if got.len() as u64 != stated {
+        return Err(Refused { number: refusal::BYTES, place: came.len() as u64, which: 1 });
+    }
+    open(d, file_size, foot, got)
+}
+
+/// What is shown of the shape, and of the room, by the bytes that came.
+fn shown(d: &Description, n: u64, stated: u64, room: usize, came: &[u8]) -> Answer<()> {
+    let length_wrong = Err(Refused { number: refusal::BYTES, place: stated, which: 1 });
+    if stated < 8 {
+        return length_wrong;
+    }
+    if came.len() < 4 {
+        return Ok(());
+    }
+    let fanout = number(came, 0, 4);
+    if !limits::FANOUT.contains(&fanout) {
+        return refuse(refusal::FANOUT, 0);
+    }
+    let mut counts = vec![n];
+    while counts[0] > 1 {
+        counts.insert(0, counts[0].div_ceil(fanout));
+    }
+    if came.len() >= 8 && number(came, 4, 4) != counts.len() as u64 {
+        return refuse(refusal::LEVELS, 4);
+    }
+    let b = d.box_bytes();
+    let boxes = counts.iter().sum::<u64>() as usize;
+    if stated != (8 + 8 * counts.len() + b * boxes) as u64 {
+        return length_wrong;
+    }
+    if room < b * (boxes - n as usize) {
+        return refuse(refusal::WORK, 0);
+    }
+    let mut at = 8;
+    for count in counts {
+        if at + 8 <= came.len() && number(came, at, 8) != count {
+            return refuse(refusal::LEVELS, at);
+        }
+        at += 8 + b * count as usize;
+    }
+    Ok(())
 }
 
 fn second(d: &Description, f: &Footer, body: &[u8]) -> Answer<(u64, u64, u64)> {

@@ -6,7 +6,7 @@ use native.Mathlib.Omega.{arith}
 use borrow.Author.Needs.{needs}
 use lib.ListN.{length, drop}
 use lib.Seq.{sets}
-use Rattle.c_api.proofs.Storing.{value-next, values-done}
+use Rattle.answers.proofs.Written.{value-next, values-done}
 use Rattle.c_api.proofs.put.Statement.{statement}
 use Rattle.c_api.proofs.put.Tie as tie
 

@@ -3,7 +3,8 @@ use Prim.Native.Nat.{ℕ}
 use borrow.Author.Needs.{needs}
 use lib.ListN.{replicate, length-replicate}
 use Rattle.c_api.specs.Places.{numberPlaces, domainPlaces, footerPlaces}
-use Rattle.c_api.proofs.Storing.{begun, more, whole, numbers-long, domain-long}
+use Rattle.answers.proofs.Written.{begun, more, whole}
+use Rattle.c_api.proofs.Storing.{numbers-long, domain-long}
 use Rattle.c_api.proofs.put_footer.Statement.{statement}
 use Rattle.c_api.proofs.put_footer.Tie as tie
 

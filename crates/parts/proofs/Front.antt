@@ -1,0 +1,362 @@
+-- What holds while bytes come: the numbers of a state are in range (`in-range`); once the first eight bytes are there,
+-- what they show is refused for good (`front-refused`), or the state stands at the root's count (`front-passed`); a count
+-- that is wrong is refused for good (`count-refused`), one that is right is passed by (`count-passed`).
+-- Assumes nothing.
+use mathlib.Core.Path.{_≡_, refl, ap, sym, _∙_}
+use mathlib.Core.Bool.{Bool, true, false, cond}
+use mathlib.Core.List.{List}
+use Prim.Native.Nat.{ℕ, zero, suc, _+_, _-_, _*_, _≤_, _<_, min}
+use native.Mathlib.Nat.{zero-add, mul-le-mul, mul-le-mul-left, mul-le-mul-right}
+use native.Mathlib.Decide.{decLe}
+use native.Mathlib.Omega.{arith}
+use lib.Dec.{eqb}
+use lib.ListN.{length, getD, take, drop}
+use borrow.Author.Tests.{eq-eqb, ne-eqb, le-ltb, le-leb, eqb-true, ltb-false, not-false}
+use Rattle.answers.specs.Refusals as refusals
+use Rattle.answers.specs.Runs.{over}
+use Rattle.answers.specs.Checks.{otherwise, first}
+use Rattle.answers.specs.declared.Refusal.{Refusal}
+use Rattle.answers.proofs.Checks.{go-on, halt, clear, check-clear}
+use Rattle.order.specs.Little.{little}
+use Rattle.order.proofs.Little.{little-part}
+use Rattle.description.specs.declared.Description.{Description}
+use Rattle.description.specs.Description.{boxBytes}
+use Rattle.description.specs.Limits.{leastTiles, mostTiles, leastFanout, mostFanout, outside, Sizes}
+use Rattle.description.proofs.Limits.{within, not-outside}
+use Rattle.tree.specs.Shape.{boxes, boxesAbove, height, levels, levelStart, bodyBytes, allBoxes, mostBoxBytes, shapeOf}
+use Rattle.tree.proofs.Counts.{boxes-pos}
+use Rattle.tree.proofs.Limits.{root-near, boxes-small}
+use Rattle.tree.proofs.Places.{start-root, leaves-end}
+use Rattle.tree.proofs.Table.{shape-levels, count-at, count-most}
+use Rattle.footer.specs.Fields.{tilesOf, domainBytes}
+use Rattle.footer.specs.Checks.{footerRefusal}
+use Rattle.footer.proofs.Passed.{Passed, passed}
+use Rattle.rtree.specs.Body.{fanoutOf, levelsOf, countPlace, storedCount}
+use Rattle.rtree.specs.Opening.{refusedIn}
+use Rattle.rtree.proofs.Passed.{box-bytes-most}
+use Rattle.parts.specs.declared.Parts.{Parts}
+use Rattle.parts.specs.Parts.{innerBytes, frontShown, countsShown, shownRefusal, whichOf, partsAnswer}
+use Rattle.parts.specs.Code.State.{itemBytes, countIn, roomLeft, mostWork, InRange, wholeIn, innerIn}
+use Rattle.parts.specs.Code.State.{refused, fronted, moved, Blank, InTree, Going, Holds, Reads}
+use Rattle.parts.proofs.Lists.{read-there}
+use Rattle.parts.proofs.Shown.{shown, say-shown, inner-boxes, front-have, front-code, count-stops}
+use Rattle.parts.proofs.Levels.{own-fits, own-root, from-first}
+
+inner-small : {n f : ℕ} (z : Sizes n f) (b : ℕ) → b ≤ mostBoxBytes → innerBytes f n b ≤ mostBoxBytes * (25 * mostTiles)
+inner-small {n} {f} z b w =
+    let few : boxesAbove f n 0 ≤ 25 * mostTiles = omega (arith, inner-boxes f n, boxes-small z) in
+    mul-le-mul w few
+
+-- no level's place in the work buffer is past the inner boxes
+own-small : (f n b j : ℕ) → j ≤ height f n → b * boxesAbove f n j ≤ innerBytes f n b
+own-small f n b zero h = omega arith
+own-small f n b (suc j) h = omega (arith, own-fits f n b j h)
+
+module _ {d : Description} {F : ℕ} {footer : List ℕ} {stated : ℕ} {body work : List ℕ} {s : Parts} {p : ℕ}
+    (g : Going d F footer stated body work s p) where
+  abbrev n : ℕ
+  n = tilesOf d footer
+
+  abbrev b : ℕ
+  b = boxBytes d
+
+  abbrev f : ℕ
+  f = fanoutOf body
+
+  pub footer-has : Passed d F footer
+  footer-has = passed d F footer (g .passed)
+
+  pub some-bytes : 0 < b
+  some-bytes = omega (arith, footer-has .head .description .some-bytes)
+
+  pub in-range : (left : ℕ) → p + left ≤ stated → InRange s left
+  in-range left fits = go (decLe 1 (s .fanout))
+    where
+      room : left ≤ roomLeft s
+      room = omega (arith, g .said, g .here)
+
+      go : Dec (1 ≤ s .fanout) → InRange s left
+      go (yes some) =
+          let t = g .tree some in
+          let count : countIn s ≡ boxes f n (s .level) = rw (t .table) (count-at (t .sized) b (box-bytes-most d) (s .level) (t .near)) in
+          let few = inner-small (t .sized) b (box-bytes-most d) in
+          record {
+            near = omega (arith, t .near, root-near (t .sized));
+            most = rw (t .table) (count-most (t .sized) b (box-bytes-most d) (s .level));
+            within = omega (arith, count, t .index);
+            fanout = omega (arith, t .fanout, t .sized .widest);
+            own = omega (arith, t .own, own-small f n b (s .level) (t .near), few);
+            parents = parents-small t few (decLe (suc (s .level)) (height f n));
+            part = g .part;
+            room = room;
+          }
+        where
+          parents-small : InTree d F footer stated body work s → innerBytes f n b ≤ mostBoxBytes * (25 * mostTiles)
+              → Dec (suc (s .level) ≤ height f n) → s .parents ≤ mostWork
+          parents-small t few (yes l) = omega (arith, t .parents l, own-small f n b (suc (s .level)) l, few)
+          parents-small t few (no l) = omega (arith, t .idle (λ h. l h))
+      go (no none) =
+          let k = g .blank (omega arith) in
+          let count : countIn s ≡ 0 = rw (k .level) (k .count) in
+          record {
+            near = omega (arith, k .level);
+            most = omega (arith, count);
+            within = omega (arith, count, k .index);
+            fanout = omega arith;
+            own = omega (arith, k .own);
+            parents = omega (arith, k .parents);
+            part = g .part;
+            room = room;
+          }
+
+  -- the first eight bytes
+  module _ (zero-number : s .number ≡ 0) (blank : s .fanout ≡ 0) (none-kept : s .kept ≡ 0) {bytes : List ℕ} (r : Reads body p bytes) (eight : length bytes ≡ 8) where
+    at-start : p ≡ 0
+    at-start = omega (arith, g .here, g .blank blank .done)
+
+    there : 8 ≤ length body
+    there = omega (arith, read-there body p bytes r (omega (arith, eight)), eight, at-start)
+
+    bytes-first : take 8 (drop 0 body) ≡ bytes
+    bytes-first = rw (eight, at-start) at r
+
+    pub fanout-read : little bytes 0 4 ≡ f
+    fanout-read = rw (← bytes-first) (little-part body 0 8 0 4 (omega arith))
+
+    pub levels-read : little bytes 4 4 ≡ levelsOf body
+    levels-read = rw (← bytes-first) (little-part body 0 8 4 4 (omega arith))
+
+    abbrev pub front : Refusal
+    front = frontShown stated (length work) 8 f (levelsOf body) (levels f n) (bodyBytes f n b) (innerBytes f n b)
+
+    -- as code works it out
+    pub front-said : {told : Refusal} {fanout level box-bytes : ℕ} → box-bytes ≡ boxBytes (s .description) → fanout ≡ little bytes 0 4 → level ≡ little bytes 4 4
+        → told ≡ frontShown (s .stated) (length work) 8 fanout level (shapeOf fanout (s .tiles) box-bytes .levels) (wholeIn fanout (s .tiles) box-bytes) (innerIn fanout (s .tiles) box-bytes)
+        → told ≡ front
+    front-said own e l h =
+        h
+        ∙ rw (own, e, l, fanout-read, levels-read, g .said, g .tiles, g .description)
+        (front-code stated (length work) 8 f (levelsOf body) n b (footer-has .some-tiles) (footer-has .most-tiles) (box-bytes-most d) (g .enough))
+
+    have-eight : 8 ≤ min (length body) stated
+    have-eight = omega (arith, there, g .enough)
+
+    pub front-refused : {told : Refusal} → told ≡ front → (told .number ≡ 0 → ⊥)
+        → Holds d F footer stated body work (refused s (whichOf (told .number)) (told .number) (told .place)) (p + 8)
+    unfolding shownRefusal
+    front-refused {told} e some =
+        let same = front-have stated (length work) (min (length body) stated) f (levelsOf body) (levels f n) (bodyBytes f n b) (innerBytes f n b) have-eight in
+        let said : shown d F footer stated (length work) body ≡ told =
+        halt _ (countsShown n b (min (length body) stated) body) (λ z. some (rw (same, ← e) at z)) ∙ same ∙ sym e in
+        record {
+          decided = λ _. say-shown d F footer stated (length work) body (g .passed) (λ z. some (rw said at z)) ∙ rw said;
+          going = λ z. absurd (some z);
+        }
+
+    -- what they have to be
+    pub record Fronted : Type 0 where
+      pub sized : Sizes n f
+      pub leveled : levelsOf body ≡ levels f n
+      pub whole : stated ≡ bodyBytes f n b
+      pub room : innerBytes f n b ≤ length work
+
+    pub front-has : front .number ≡ 0 → Fronted
+    unfolding frontShown
+    front-has z =
+        let a = clear _ _ z in
+        let o = clear _ _ (a .1) in
+        let l = clear _ _ (o .1) in
+        let w = clear _ _ (l .1) in
+        let r = clear _ _ (w .1) in
+        let h = within leastFanout mostFanout f (check-clear _ _ _ (omega arith) (o .0)) in
+        record {
+          sized = record { some = footer-has .some-tiles; most = footer-has .most-tiles; least = h .0; widest = h .1 };
+          leveled = eqb-true _ _ (not-false _ (check-clear _ _ _ (omega arith) (l .0)));
+          whole = eqb-true _ _ (not-false _ (check-clear _ _ _ (omega arith) (w .0)));
+          room = ltb-false _ _ (check-clear _ _ _ (omega arith) (r .0));
+        }
+
+    module _ (h : Fronted) where
+      root-tree : InTree d F footer stated body work (fronted s f (levelsOf body) (shapeOf f n b .table) (height f n))
+      root-tree = record {
+        sized = h .sized;
+        fanout = refl;
+        level-number = refl;
+        leveled = h .leveled;
+        whole = h .whole;
+        room = h .room;
+        table = refl;
+        near = omega arith;
+        flag = omega arith;
+        fresh = λ _. refl;
+        place = omega (arith, start-root f n b);
+        index = omega arith;
+        last = λ e. absurd (omega (arith, boxes-pos f n (height f n) (omega (arith, h .sized .least)) (h .sized .some)));
+        counts = λ i near later. absurd (omega arith);
+        own = rw (own-root f n b) (omega arith);
+        parents = λ l. absurd (omega arith);
+        idle = λ _. refl;
+        fault = from-first d n (domainBytes d footer) body (omega (arith, h .sized .least)) (h .sized .some);
+        above = λ l. absurd (omega arith);
+        mine = λ _. let z : 0 * b ≡ 0 = omega arith in rw z;
+      }
+
+      pub front-passed : {fanout level : ℕ} {table : List ℕ} {top : ℕ} → fanout ≡ f → level ≡ levelsOf body
+          → table ≡ shapeOf f n b .table → top ≡ height f n
+          → Holds d F footer stated body work (fronted s fanout level table top) (p + 8)
+      front-passed e l q top =
+          rw (e, l, q, top) (record {
+            decided = λ some. absurd (some zero-number);
+            going = λ _. record {
+              passed = g .passed;
+              enough = g .enough;
+              description = g .description;
+              tiles = g .tiles;
+              said = g .said;
+              domain = g .domain;
+              here = omega (arith, none-kept, at-start);
+              within = omega (arith, at-start, g .enough);
+              there = omega (arith, at-start, there);
+              part = omega (arith, none-kept);
+              held = rw none-kept refl;
+              blank = λ e. absurd (omega (arith, h .sized .least));
+              tree = λ _. root-tree;
+            };
+          })
+
+  -- a count comes after them
+  pub is-tree : 0 < s .counted → 0 < s .fanout
+  is-tree h = go (decLe 1 (s .fanout))
+    where
+      go : Dec (1 ≤ s .fanout) → 0 < s .fanout
+      go (yes l) = l
+      go (no l) = absurd (omega (arith, g .blank (omega arith) .counted))
+
+  -- past the first eight bytes they show nothing
+  module _ (some-fanout : 0 < s .fanout) where
+    abbrev t : InTree d F footer stated body work s
+    t = g .tree some-fanout
+
+    pub front-clear : (have : ℕ) → 8 ≤ have
+        → frontShown stated (length work) have f (levelsOf body) (levels f n) (bodyBytes f n b) (innerBytes f n b) ≡ refusals.none
+    unfolding frontShown first
+    front-clear have h =
+        rw (
+          le-ltb stated 8 (g .enough),
+          le-leb 4 have (omega arith),
+          le-leb 8 have h,
+          not-outside leastFanout mostFanout f (t .sized .least) (t .sized .widest),
+          eq-eqb (levelsOf body) (levels f n) (t .leveled),
+          eq-eqb stated (bodyBytes f n b) (t .whole),
+          le-ltb (length work) (innerBytes f n b) (t .room),
+        )
+
+    pub shown-counts : (have : ℕ) → 8 ≤ have
+        → shownRefusal n b have body stated (length work) ≡ countsShown n b have body
+    unfolding shownRefusal
+    shown-counts have h = rw (front-clear have h)
+
+    pub count-is : countIn s ≡ boxes f n (s .level)
+    count-is = rw (t .table) (count-at (t .sized) b (box-bytes-most d) (s .level) (t .near))
+
+    pub some-boxes : (j : ℕ) → 0 < boxes f n j
+    some-boxes j = boxes-pos f n j (omega (arith, t .sized .least)) (t .sized .some)
+
+    -- before the last byte a box is left of a level whose count has come
+    pub box-left : 0 < s .counted → p < stated → s .index < countIn s
+    unfolding boxes
+    box-left is-counted short = go (decLe (suc (s .index)) (boxes f n (s .level)))
+      where
+        go : Dec (suc (s .index) ≤ boxes f n (s .level)) → s .index < countIn s
+        go (yes l) = omega (arith, count-is)
+        go (no l) =
+            let all : s .index ≡ boxes f n (s .level) = omega (arith, t .index) in
+            let leaves = t .last all in
+            let every : s .index ≡ n = all ∙ rw leaves in
+            let place = rw (leaves, every) at (t .place) in
+            absurd (omega (arith, place, t .flag, g .here, leaves-end f n b, t .whole))
+
+    -- a count
+    module _ (zero-number : s .number ≡ 0) (uncounted : s .counted ≡ 0) (none-kept : s .kept ≡ 0) {bytes : List ℕ} (r : Reads body p bytes)
+        (eight : length bytes ≡ 8) (fits : p + 8 ≤ stated) where
+      at-count : p + 8 ≡ levelStart f n b (s .level)
+      at-count =
+          let k = t .fresh uncounted in
+          let z : s .index * b ≡ 0 = rw k (omega arith) in
+          omega (arith, g .here, none-kept, t .place, uncounted, z)
+
+      count-there : p + 8 ≤ length body
+      count-there = omega (arith, read-there body p bytes r (omega (arith, eight)), eight)
+
+      pub count-read : little bytes 0 8 ≡ storedCount n b body (s .level)
+      count-read =
+          let place : countPlace f n b (s .level) ≡ p + 0 = omega (arith, at-count) in
+          let e = rw eight at r in
+          rw (place, ← e) (little-part body p 8 0 8 (omega arith))
+
+      pub count-refused : {stored : ℕ} → stored ≡ little bytes 0 8 → (stored ≡ countIn s → ⊥)
+          → Holds d F footer stated body work (refused s 1 refusals.levels (s .done)) (p + 8)
+      count-refused e wrong =
+          let have = min (length body) stated in
+          let place : countPlace f n b (s .level) ≡ s .done = omega (arith, at-count, g .here, none-kept) in
+          let counts = count-stops n b have body (s .level) (t .near)
+          (λ i near later. t .counts i near (omega (arith, uncounted)))
+          (omega (arith, at-count, count-there, fits)) (λ right. wrong (e ∙ count-read ∙ right ∙ sym count-is)) in
+          let said : shown d F footer stated (length work) body ≡ refusals.refusal refusals.levels (s .done) =
+          shown-counts have (omega (arith, count-there, fits)) ∙ counts ∙ rw place in
+          record {
+            decided = λ _. say-shown d F footer stated (length work) body (g .passed) (rw said (λ z. omega arith)) ∙ rw said;
+            going = λ z. absurd (omega arith);
+          }
+
+      counted-tree : storedCount n b body (s .level) ≡ boxes f n (s .level)
+          → InTree d F footer stated body work (moved s 0 (s .done + 8) (refusals.refusal (s .«box_number») (s .«box_place»)))
+      counted-tree right = record {
+        sized = t .sized;
+        fanout = t .fanout;
+        level-number = t .level-number;
+        leveled = t .leveled;
+        whole = t .whole;
+        room = t .room;
+        table = t .table;
+        near = t .near;
+        flag = omega arith;
+        fresh = λ _. refl;
+        place = let z : 0 * b ≡ 0 = omega arith in omega (arith, at-count, g .here, none-kept);
+        index = omega arith;
+        last = λ e. absurd (omega (arith, some-boxes (s .level)));
+        counts = λ i near later. counted i near later (decLe (suc (s .level)) i);
+        own = t .own;
+        parents = t .parents;
+        idle = t .idle;
+        fault = rw (t .fresh uncounted) at (t .fault);
+        above = t .above;
+        mine = λ _. let z : 0 * b ≡ 0 = omega arith in rw z;
+      }
+        where
+          counted : (i : ℕ) → i ≤ height f n → s .level < i + 1 → Dec (suc (s .level) ≤ i) → storedCount n b body i ≡ boxes f n i
+          counted i near later (yes l) = t .counts i near (omega (arith, uncounted))
+          counted i near later (no l) =
+              let e : i ≡ s .level = omega arith in
+              rw e right
+
+      pub count-passed : {stored : ℕ} → stored ≡ little bytes 0 8 → stored ≡ countIn s
+          → Holds d F footer stated body work (moved s 0 (s .done + 8) (refusals.refusal (s .«box_number») (s .«box_place»))) (p + 8)
+      count-passed e right = record {
+        decided = λ some. absurd (some zero-number);
+        going = λ _. record {
+          passed = g .passed;
+          enough = g .enough;
+          description = g .description;
+          tiles = g .tiles;
+          said = g .said;
+          domain = g .domain;
+          here = omega (arith, none-kept, g .here);
+          within = fits;
+          there = count-there;
+          part = rw (g .description, none-kept) some-bytes;
+          held = rw none-kept refl;
+          blank = λ z. absurd (omega arith);
+          tree = λ _. counted-tree (sym count-read ∙ sym e ∙ right ∙ count-is);
+        };
+      }

@@ -1,0 +1,174 @@
+//! Bodies that arrive in parts: the library, through its C functions, against the rules, on generated bodies that are cut at random, with stated
+//! lengths and work buffers around the right ones. And states and work buffers that no call left: nothing may be read or written but what is lent.
+
+use crate::cases::{self, Case, Chance};
+use crate::guard::Space;
+use crate::rules::{self, refusal, Description};
+use std::collections::BTreeMap;
+
+const STATE: usize = 201;
+
+extern "C" {
+    fn tussockbell_parts_start(
+        k: *const u8, kl: usize, fields: u64, capacity: u64, file: u64, f: *const u8, fl: usize, stated: u64, state: *mut u64,
+    );
+    fn tussockbell_parts_block(state: *mut u64, w: *mut u8, wl: usize, b: *const u8, bl: usize);
+    fn tussockbell_parts_finish(state: *const u64, w: *const u8, wl: usize, answer: *mut u64);
+}
+
+/// What came, in what blocks, and what is right of it.
+struct Parts {
+    d: Description,
+    file_size: u64,
+    footer: Vec<u8>,
+    stated: u64,
+    work: Vec<u8>,
+    got: Vec<u8>,
+    cuts: Vec<usize>,
+}
+
+/// The places where a run of bytes is cut, the last one its end.
+fn cuts(c: &mut Chance, length: usize) -> Vec<usize> {
+    let (mut all, mut at) = (vec![], 0);
+    let most = c.of(&[1, 2, 9, 40, 200, 100_000]);
+    while at < length {
+        let next = c.of(&[0, 1, 7, 8, 9, 16, most]);
+        at = length.min(at + if c.one_in(2) { next } else { c.below(most as u64 + 1) as usize });
+        all.push(at);
+    }
+    all.push(length);
+    all
+}
+
+/// The bytes that inner boxes take, as far as the first four bytes say it.
+fn needed(d: &Description, n: u64, body: &[u8]) -> usize {
+    let f = if body.len() < 4 { 2 } else { rules::number(body, 0, 4).clamp(2, 1_024) };
+    let (mut count, mut boxes) = (n, 0);
+    while count > 1 {
+        count = count.div_ceil(f);
+        boxes += count;
+    }
+    boxes as usize * d.box_bytes()
+}
+
+fn make(c: &mut Chance) -> Option<Parts> {
+    let Case::Open { d, file_size, footer, tree } = cases::make(c) else { return None };
+    let n = rules::footer(&d, file_size, &footer).map_or(3, |f| f.tiles).min(2_000);
+    let length = tree.len() as i64;
+    let stated = if c.one_in(4) { (length + c.of(&[-9, -8, -1, 1, 8, 1_000, -length, 3 - length, 8 - length])).max(0) } else { length } as u64;
+    let mut got = tree;
+    match c.below(6) {
+        0 => got.truncate(c.below(length as u64 + 1) as usize),
+        1 => got.truncate(c.below(40) as usize),
+        2 => got.extend((0..1 + c.below(30)).map(|i| i as u8)),
+        _ => (),
+    }
+    let room = needed(&d, n, &got) as i64 + if c.one_in(3) { c.of(&[-1, 1, 7, -8, 64, -100_000]) } else { 0 };
+    let filler = c.next() as u8;
+    let cuts = cuts(c, got.len());
+    Some(Parts { d, file_size, footer, stated, work: vec![filler; room.clamp(0, 200_000) as usize], got, cuts })
+}
+
+/// The library's answer, with every block and the work buffer in a place of its own, between guard pages where there is a space for them.
+fn ask(p: &Parts, space: &mut Option<&mut Space>) -> Vec<u64> {
+    let (mut state, mut answer) = ([u64::MAX; STATE], vec![u64::MAX; 6]);
+    let mut own = p.work.clone();
+    let work = match space {
+        Some(space) => {
+            space.again();
+            let place = space.lend(own.len());
+            unsafe { std::ptr::copy_nonoverlapping(own.as_ptr(), place, own.len()) };
+            place
+        }
+        None => own.as_mut_ptr(),
+    };
+    let d = &p.d;
+    unsafe {
+        tussockbell_parts_start(
+            d.kinds.as_ptr(), d.kinds.len(), d.fields, d.capacity, p.file_size, p.footer.as_ptr(), p.footer.len(), p.stated, state.as_mut_ptr(),
+        );
+    }
+    let mut from = 0;
+    for to in &p.cuts {
+        let block = &p.got[from..*to];
+        let place = match space {
+            Some(space) => space.again_with(block),
+            None => block.as_ptr(),
+        };
+        unsafe { tussockbell_parts_block(state.as_mut_ptr(), work, p.work.len(), place, block.len()) };
+        from = *to;
+    }
+    unsafe { tussockbell_parts_finish(state.as_ptr(), work, p.work.len(), answer.as_mut_ptr()) };
+    answer
+}
+
+fn right(p: &Parts) -> Vec<u64> {
+    match rules::parts(&p.d, p.file_size, &p.footer, p.stated, p.work.len(), &p.got) {
+        Ok((n, f, l)) => vec![0, 0, 0, n, f, l],
+        Err(r) => vec![r.number, r.place, r.which, 0, 0, 0],
+    }
+}
+
+fn same(p: &Parts, space: &mut Option<&mut Space>, refusals: &mut BTreeMap<u64, u64>, made: u64) {
+    let (right, said) = (right(p), ask(p, space));
+    if right != said {
+        let cut = (p.stated, p.work.len(), p.got.len(), &p.cuts);
+        eprintln!("parts: input {made} differs: stated, room, received and cuts {cut:?}\nthe rules: {right:?}\nthe library: {said:?}");
+        std::process::exit(1);
+    }
+    *refusals.entry(right[0]).or_insert(0) += 1;
+}
+
+/// States and work buffers that no call left, between guard pages: any answer will do.
+fn forged(c: &mut Chance, p: &Parts, space: &mut Space) {
+    let mut state = [0u64; STATE];
+    let d = &p.d;
+    unsafe {
+        tussockbell_parts_start(
+            d.kinds.as_ptr(), d.kinds.len(), d.fields, d.capacity, p.file_size, p.footer.as_ptr(), p.footer.len(), p.stated, state.as_mut_ptr(),
+        );
+    }
+    for place in &mut state {
+        if c.one_in(3) {
+            *place = c.of(&[0, 1, 2, 3, 8, 16, 24, 25, 64, 255, 1_024, 65_536, 1 << 24, 1 << 40, 1 << 63, u64::MAX, u64::MAX - 7]);
+        }
+    }
+    if c.one_in(2) {
+        state[0] = 0;
+    }
+    if c.one_in(2) {
+        (state[11], state[19]) = (u64::MAX - c.below(2), c.of(&[16, 24, 1 << 20, u64::MAX - 64]));
+    }
+    space.again();
+    let work = space.lend(p.work.len());
+    let before = state;
+    let mut answer = [u64::MAX; 6];
+    for to in &p.cuts {
+        let block = space.again_with(&p.got[..*to]);
+        unsafe { tussockbell_parts_block(state.as_mut_ptr(), work, p.work.len(), block, *to) };
+    }
+    unsafe { tussockbell_parts_finish(before.as_ptr(), work, p.work.len(), answer.as_mut_ptr()) };
+    unsafe { tussockbell_parts_finish(state.as_ptr(), work, p.work.len(), answer.as_mut_ptr()) };
+}
+
+pub fn compare(inputs: u64, seed: u64) {
+    let (mut refusals, mut space) = (BTreeMap::new(), Space::new());
+    let (mut compared, mut i) = (0, 0);
+    while compared < inputs {
+        i += 1;
+        let mut c = Chance::new(seed, i);
+        let Some(p) = make(&mut c) else { continue };
+        let guards = p.work.len() < 200_000 && p.got.len() < 200_000 && i % 20 == 0;
+        same(&p, &mut if guards { Some(&mut space) } else { None }, &mut refusals, i);
+        if guards {
+            forged(&mut c, &p, &mut space);
+        }
+        compared += 1;
+    }
+    if inputs >= 100_000 {
+        for number in (0..=refusal::OUTSIDE_DOMAIN).chain([refusal::WORK]) {
+            assert!(refusals.contains_key(&number), "no body in parts was refused with {number}");
+        }
+    }
+    println!("differential: {compared} bodies in parts agree; refusals {refusals:?}");
+}
