@@ -68,7 +68,7 @@ def groups(ratios, pictured=False):
     by_kind = [("rust", f"query, {kind}", of("rust", "query", kind)) for kind in KINDS]
     made = by_fanout["rust"] + ([] if pictured else by_kind)
     made += [] if pictured else [("rust", "query, up to 16,777,216 tiles", of("rust", "more tiles"))]
-    made += [("rust", "opening", of("rust", "open"))]
+    made += [("rust", "opening", of("rust", "open")), ("rust", "writing", of("rust", "write"))]
     made += [] if pictured else [("rust", f"opening, {kind}", of("rust", "open", kind)) for kind in KINDS]
     made += [("rust", "lists", [*of("rust", "offsets"), *of("rust", "var offsets"), *of("rust", "sizes")])]
     for peer in ("boost", "libspatialindex"):
@@ -263,7 +263,7 @@ def page(tables, ratios):
         prose("""
             `benchmarks.tsv` has every number that was measured, as the harness printed it: tab-parted, the table's name first, and a line
             with the columns' names before each table's rows. Found and looked are means a query; times are a query's, an opening's (footer
-            and tree together, every box checked) or a list's. A row `ratio` has a case and our time divided by theirs.
+            and tree together, every box checked), a written tree's (its leaves checked too) or a list's. A row `ratio` has a case and our time divided by theirs.
             """),
         "## Lists",
         prose("Checking tile offsets, checking var offsets, and checking and adding up tile sizes."),

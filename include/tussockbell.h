@@ -1,5 +1,5 @@
 /* Tussockbell for C and C++: the footer and the R-tree of a TileDB fragment's metadata, tile offsets, var offsets and
- * tile sizes.
+ * tile sizes; and R-trees written from their leaves.
  *
  * Every function takes any input and writes every place of its answer array; none keeps a pointer. A byte string is a
  * pointer and a length. With length 0 nothing is read or written through the pointer, which may then be null. A pointer
@@ -80,6 +80,7 @@ extern "C" {
 #define TUSSOCKBELL_REFUSED_WORK 21
 #define TUSSOCKBELL_REFUSED_RUNS 22
 #define TUSSOCKBELL_REFUSED_INFINITE 23
+#define TUSSOCKBELL_REFUSED_ROOM 26
 
 /* The text of a refusal number. */
 static inline const char *tussockbell_refusal_text(uint64_t number)
@@ -133,6 +134,8 @@ static inline const char *tussockbell_refusal_text(uint64_t number)
         return "the answer run is not as long as the query run";
     case TUSSOCKBELL_REFUSED_INFINITE:
         return "a stored range end is infinite";
+    case TUSSOCKBELL_REFUSED_ROOM:
+        return "the output buffer is too short";
     default:
         return "no refusal number";
     }
@@ -220,6 +223,10 @@ static inline const char *tussockbell_refusal_text(uint64_t number)
 /* tussockbell_sizes */
 #define TUSSOCKBELL_SIZES_SUM 2
 #define TUSSOCKBELL_SIZES_PLACES 3
+
+/* tussockbell_write_tree and tussockbell_tree_length */
+#define TUSSOCKBELL_WRITE_LENGTH 2
+#define TUSSOCKBELL_WRITE_PLACES 3
 
 /* Opens a footer of a metadata file of `file_size` bytes: every number of it. A dimension of the domain is its kind
  * number and the bit patterns of its ends, an end of 4 bytes in the low half. Dimensions past those that there are,
@@ -334,6 +341,22 @@ void tussockbell_extent_at(uint64_t tiles, uint64_t size, const uint8_t *list, s
 /* Checks tile sizes, and adds them up. */
 void tussockbell_sizes(uint64_t tiles, const uint8_t *list, size_t list_length,
                        uint64_t *answer /* [TUSSOCKBELL_SIZES_PLACES] */);
+
+/* Writes the whole R-tree of `tiles` leaf boxes to the start of `out`: each box above them is the least box around its
+ * row of children, at most `fanout` of them, and between equal ends, as 0.0 and -0.0 are, has the bytes of the first
+ * child that has it. A leaf box is, for each dimension, its minimum and its maximum, little-endian, of that
+ * dimension's kind; the leaves stand one after the other and are checked as boxes of a tree are, with places that
+ * count in `leaves`. TUSSOCKBELL_REFUSED_ROOM at 0 says that all else is well and `out` is shorter than the body. The
+ * answer has the body's length in bytes; bytes of `out` past it stay, and all of them where the call is refused.
+ * tussockbell_open accepts the body with every accepted footer of this description and this number of tiles whose
+ * domain holds the first box. Time and memory: linear, and none but `out`. */
+void tussockbell_write_tree(const uint8_t *kinds, size_t kinds_length, uint64_t fields, uint64_t capacity, uint64_t tiles,
+                            uint64_t fanout, const uint8_t *leaves, size_t leaves_length, uint8_t *out, size_t out_length,
+                            uint64_t *answer /* [TUSSOCKBELL_WRITE_PLACES] */);
+
+/* The length in bytes of a tree of so many tiles with this fanout: the room that tussockbell_write_tree asks for. */
+void tussockbell_tree_length(const uint8_t *kinds, size_t kinds_length, uint64_t fields, uint64_t capacity, uint64_t tiles,
+                             uint64_t fanout, uint64_t *answer /* [TUSSOCKBELL_WRITE_PLACES] */);
 
 /* The report of the contents of four files: description, footer, tree and offsets. Returns the length of its text,
  * which is at most TUSSOCKBELL_REPORT_MOST, and writes the text at the start of `out` if all of it fits; otherwise `out`

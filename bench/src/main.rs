@@ -38,7 +38,7 @@ const TRIALS: usize = 3;
 /// A tree in parts comes in blocks of these sizes.
 const BLOCKS: [usize; 3] = [4_096, 65_536, 1_048_576];
 
-const TABLES: [(&str, &str); 9] = [
+const TABLES: [(&str, &str); 10] = [
     ("run", "rounds\tleast us\ttrials\tsmall windows\tlarge windows\tboost capacities\tlibspatialindex capacities"),
     (
         "query",
@@ -46,6 +46,7 @@ const TABLES: [(&str, &str); 9] = [
          libspatialindex capacity",
     ),
     ("open", "kind\tD\tf\tn\tbytes\tours ns\tours ns/byte\trust ns\trust ns/byte"),
+    ("write", "kind\tD\tf\tn\tbytes\tours ns\tours ns/byte\trust ns\trust ns/byte"),
     ("list", "list\tn\tours ns\tours ns/entry\trust ns\trust ns/entry"),
     ("looks", "looked\tours ns\tours ns/box\trust ns\trust ns/box"),
     (
@@ -267,6 +268,42 @@ impl Opened {
     }
 }
 
+/// Leaves to write a tree of.
+struct Writing {
+    kinds: Vec<u8>,
+    tiles: u64,
+    fanout: u64,
+    leaves: Vec<u8>,
+    bytes: usize,
+}
+
+impl Writing {
+    /// Both write the tree that is there to be measured on.
+    fn new(kinds: &[Kind], leaves: &[Cells], fanout: usize) -> Writing {
+        let tree = data::tree(kinds, leaves, fanout);
+        let lent_leaves: Vec<u8> = leaves.iter().flat_map(|leaf| data::bytes(kinds, leaf)).collect();
+        let made = Writing { kinds: lent(kinds), tiles: leaves.len() as u64, fanout: fanout as u64, leaves: lent_leaves, bytes: tree.len() };
+        let (mut first, mut second) = (vec![1; tree.len()], vec![2; tree.len()]);
+        assert_eq!(made.ours(&mut first), [0, 0, tree.len() as u64]);
+        assert_eq!(made.plain(&mut second), Ok(tree.len() as u64));
+        assert!(first == tree && second == tree, "another tree is written");
+        made
+    }
+
+    fn ours(&self, out: &mut [u8]) -> [u64; 3] {
+        peers::write_tree(&self.kinds, FIELDS, CAPACITY, self.tiles, self.fanout, black_box(&self.leaves), out)
+    }
+
+    fn plain(&self, out: &mut [u8]) -> Result<u64, plain::Refused> {
+        plain::write_tree(&self.kinds, FIELDS, CAPACITY, self.tiles, self.fanout, black_box(&self.leaves), out)
+    }
+
+    fn runs(&self) -> [Run<'_>; 2] {
+        let (mut first, mut second) = (vec![0; self.bytes], vec![0; self.bytes]);
+        [Box::new(move || _ = black_box(self.ours(&mut first))), Box::new(move || _ = black_box(self.plain(&mut second)))]
+    }
+}
+
 /// The three lists of so many tiles. Of the var offsets every third tile has no bytes.
 struct Listed {
     tiles: u64,
@@ -345,6 +382,17 @@ impl Bench {
             let bytes = opened.bytes();
             self.rows.push(format!("open\t{kind}\t{d}\t{f}\t{n}\t{bytes}\t{}", beside(taken, bytes as f64)));
             self.ratio(format!("rust/open/{kind}/D={d}/f={f}/n={n}"), taken[0], taken[1]);
+        }
+    }
+
+    fn writing_cases(&mut self, kinds: &[Kind], leaves: &[Cells]) {
+        let (kind, d, n) = (described(kinds), kinds.len(), leaves.len());
+        let written = FANOUTS.map(|f| Writing::new(kinds, leaves, f));
+        let taken = measure(written.iter().flat_map(Writing::runs).collect(), self.rounds);
+        for ((f, written), taken) in FANOUTS.iter().zip(&written).zip(taken.chunks(2)) {
+            let bytes = written.bytes;
+            self.rows.push(format!("write\t{kind}\t{d}\t{f}\t{n}\t{bytes}\t{}", beside(taken, bytes as f64)));
+            self.ratio(format!("rust/write/{kind}/D={d}/f={f}/n={n}"), taken[0], taken[1]);
         }
     }
 
@@ -482,6 +530,7 @@ fn main() {
                 eprintln!("bench: {} D={dimensions} n={tiles}", described(&kinds));
                 bench.query_cases(&kinds, &leaves);
                 bench.opening_cases(&kinds, &leaves);
+                bench.writing_cases(&kinds, &leaves);
                 if dimensions == 2 && tiles == TILES[1] {
                     bench.parts_cases(&kinds, &leaves);
                 }

@@ -21,6 +21,10 @@ unsafe extern "C" {
     );
     fn tussockbell_offsets(tiles: u64, size: u64, list: *const u8, list_length: usize, answer: *mut u64);
     fn tussockbell_var_offsets(tiles: u64, size: u64, list: *const u8, list_length: usize, answer: *mut u64);
+    fn tussockbell_write_tree(
+        kinds: *const u8, kinds_length: usize, fields: u64, capacity: u64, tiles: u64, fanout: u64, leaves: *const u8, leaves_length: usize,
+        out: *mut u8, out_length: usize, answer: *mut u64,
+    );
     fn tussockbell_sizes(tiles: u64, list: *const u8, list_length: usize, answer: *mut u64);
 }
 
@@ -125,6 +129,18 @@ pub fn var_offsets(tiles: u64, size: u64, list: &[u8]) -> [u64; 3] {
 pub fn sizes(tiles: u64, list: &[u8]) -> [u64; 3] {
     let mut answer = [0; 3];
     unsafe { tussockbell_sizes(tiles, list.as_ptr(), list.len(), answer.as_mut_ptr()) }
+    answer
+}
+
+/// Number, place, length.
+pub fn write_tree(kinds: &[u8], fields: u64, capacity: u64, tiles: u64, fanout: u64, leaves: &[u8], out: &mut [u8]) -> [u64; 3] {
+    let mut answer = [0; 3];
+    unsafe {
+        tussockbell_write_tree(
+            kinds.as_ptr(), kinds.len(), fields, capacity, tiles, fanout, leaves.as_ptr(), leaves.len(), out.as_mut_ptr(), out.len(),
+            answer.as_mut_ptr(),
+        )
+    }
     answer
 }
 

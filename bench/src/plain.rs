@@ -51,6 +51,7 @@ mod refusal {
     #[allow(dead_code)]
     pub const RUNS: u64 = 22;
     pub const INFINITE: u64 = 23;
+    pub const ROOM: u64 = 26;
 }
 
 #[derive(Debug, PartialEq)]
@@ -121,6 +122,8 @@ trait Number: PartialOrd + Copy {
     fn finite_in_order(low: Self, high: Self) -> bool;
 
     fn infinite(self) -> bool;
+
+    fn put(ends: Ends<Self>, bytes: &mut [u8]);
 }
 
 macro_rules! number {
@@ -137,6 +140,12 @@ macro_rules! number {
 
             fn infinite(self) -> bool {
                 $infinite(self)
+            }
+
+            fn put(ends: Ends<$t>, bytes: &mut [u8]) {
+                let (low, high) = bytes[..2 * size_of::<$t>()].split_at_mut(size_of::<$t>());
+                low.copy_from_slice(&ends.0.to_le_bytes());
+                high.copy_from_slice(&ends.1.to_le_bytes());
             }
         })*
     };
@@ -176,6 +185,30 @@ impl Kind {
             Kind::Float32 => one::<f32>(inner, outer),
             Kind::Float64 => one::<f64>(inner, outer),
             Kind::Uint64 => one::<u64>(inner, outer),
+        }
+    }
+
+    /// The least range around those that a row of boxes has at a place; of equal ends the first is kept.
+    fn around(self, row: &[u8], width: usize, at: usize, to: &mut [u8]) {
+        fn one<T: Number>(row: &[u8], width: usize, at: usize, to: &mut [u8]) {
+            let mut least = T::ends(&row[at..]);
+            for child in row.chunks_exact(width).skip(1) {
+                let ends = T::ends(&child[at..]);
+                if ends.0 < least.0 {
+                    least.0 = ends.0;
+                }
+                if ends.1 > least.1 {
+                    least.1 = ends.1;
+                }
+            }
+            T::put(least, to);
+        }
+        match self {
+            Kind::Int32 => one::<i32>(row, width, at, to),
+            Kind::Int64 => one::<i64>(row, width, at, to),
+            Kind::Float32 => one::<f32>(row, width, at, to),
+            Kind::Float64 => one::<f64>(row, width, at, to),
+            Kind::Uint64 => one::<u64>(row, width, at, to),
         }
     }
 
@@ -515,6 +548,59 @@ fn boxes(d: &Description, tiles: usize, domain: &[u8], body: &[u8]) -> Result<(u
         }
     }
     Ok((tiles as u64, shape.fanout as u64, shape.levels as u64))
+}
+
+/// Writes the whole tree of so many leaves, and answers its length: the leaves first, and then each level from the one below it.
+#[inline(never)]
+pub fn write_tree(kinds: &[u8], fields: u64, capacity: u64, tiles: u64, fanout: u64, leaves: &[u8], out: &mut [u8]) -> Result<u64, Refused> {
+    let d = Description::new(kinds, fields, capacity)?;
+    if !limits::TILES.contains(&tiles) {
+        return refuse(refusal::TILES, 0);
+    }
+    let fanout = fanout as usize;
+    if !limits::FANOUT.contains(&fanout) {
+        return refuse(refusal::FANOUT, 0);
+    }
+    let (tiles, width) = (tiles as usize, d.box_bytes());
+    if leaves.len() != tiles * width {
+        return refuse(refusal::BYTES, leaves.len());
+    }
+    for (k, leaf) in leaves.chunks_exact(width).enumerate() {
+        let mut at = 0;
+        for kind in d.kinds() {
+            if let Some(number) = Range::read(*kind, &leaf[at..]).stored_fault() {
+                return refuse(number, k * width + at);
+            }
+            at += kind.range_bytes();
+        }
+    }
+    let mut counts = vec![tiles];
+    while counts[0] > 1 {
+        counts.insert(0, counts[0].div_ceil(fanout));
+    }
+    let length = 8 + counts.iter().map(|count| 8 + count * width).sum::<usize>();
+    let Some(body) = out.get_mut(..length) else { return refuse(refusal::ROOM, 0) };
+    body[..4].copy_from_slice(&(fanout as u32).to_le_bytes());
+    body[4..8].copy_from_slice(&(counts.len() as u32).to_le_bytes());
+    let mut start = length - leaves.len();
+    body[start..].copy_from_slice(leaves);
+    for level in (0..counts.len()).rev() {
+        body[start - 8..start].copy_from_slice(&(counts[level] as u64).to_le_bytes());
+        if level > 0 {
+            let above = start - 8 - counts[level - 1] * width;
+            let (parents, below) = body[above..].split_at_mut(start - above);
+            let rows = below[..counts[level] * width].chunks(fanout * width);
+            for (parent, row) in parents.chunks_exact_mut(width).zip(rows) {
+                let mut at = 0;
+                for kind in d.kinds() {
+                    kind.around(row, width, at, &mut parent[at..]);
+                    at += kind.range_bytes();
+                }
+            }
+            start = above;
+        }
+    }
+    Ok(length as u64)
 }
 
 /// A tree that arrives in blocks: the first eight bytes, then level by level a count and its boxes, each item from the block where it is whole,

@@ -525,6 +525,7 @@ class Refusals(unittest.TestCase):
             21: (in_parts, 0, 0),
             22: (lambda: tb.query_batch(ONE, 3, body, bytes(9)), 0, 0),
             23: (lambda: tb.read_footer(real, SAMPLE_SIZE, changed(foot, 20, infinite)), 20, 0),
+            26: (lambda: tb.write_tree_into(ONE, 3, 2, body[56:], bytearray(79)), 0, 0),
         }
         self.assertEqual(list(cases), REFUSALS)
         for number, (ask, place, which) in cases.items():
@@ -930,6 +931,100 @@ class Trees(unittest.TestCase):
         self.assertGreater(sum(hit.found for hit in expected), 4 * 32)
 
 
+class Writing(unittest.TestCase):
+    def same(self, given, known, n, fanout, leaves):
+        """The body, or the refusal, is the reference's, in a buffer with room to spare, with just enough and with too little."""
+        right = outcome(rules.write_tree, known, n, fanout, leaves, MOST)
+        self.assertEqual(outcome(tb.write_tree, given, n, fanout, leaves), right)
+        length = len(right) if isinstance(right, bytes) else 100
+        for room in (0, 1, length - 1, length, length + 9):
+            out = bytearray(b"\xa5" * room)
+            expected = outcome(rules.write_tree, known, n, fanout, leaves, room)
+            body = expected if isinstance(expected, bytes) else b""
+            said = outcome(tb.write_tree_into, given, n, fanout, leaves, out)
+            self.assertEqual(said, len(body) if body else expected)
+            self.assertEqual(out, body + b"\xa5" * (room - len(body)))
+        self.assertEqual(outcome(tb.tree_length, given, n, fanout), outcome(rules.tree_length, known, n, fanout))
+        return right
+
+    def test_fixtures(self):
+        """The writer of the fixtures, which knows nothing of this one, has written the same bytes."""
+        folders = [folder for folder in sorted((root / "tests/fixtures").iterdir()) if (folder / "about").exists()]
+        for folder in folders:
+            kinds, fields, capacity = (folder / "about").read_text().splitlines()[:3]
+            given, body = tb.Description(kinds.split(), int(fields), int(capacity)), (folder / "tree").read_bytes()
+            known = rules.Description(kinds.split(), int(fields), int(capacity))
+            n = rules.number((folder / "offsets").read_bytes(), 0, 8)
+            self.assertEqual(tb.write_tree(given, n, rules.number(body, 0, 4), body[len(body) - n * known.box_bytes() :]), body)
+
+    def test_generated(self):
+        chance = random.Random(7)
+        refusals = set()
+        for _ in range(400):
+            fanout = chance.choice([2, 2, 3, 4, 7, 1024])
+            n = chance.choice([1, fanout, fanout + 1, fanout**2, fanout**2 + 1, chance.randrange(1, 30)]) % 70 or 1
+            kinds = [chance.choice(list(rules.KINDS)) for _ in range(chance.randrange(1, 5))]
+            f = Fragment(kinds, n, fanout, 1, chance)
+            leaves = f.tree[len(f.tree) - n * f.known.box_bytes() :]
+            self.assertEqual(self.same(f.given, f.known, n, fanout, leaves), f.tree)
+            # What is written is accepted, and asked, with a footer whose domain holds the root.
+            tree = tb.open_tree(f.given, f.file_size, f.footer, tb.write_tree(f.given, n, fanout, leaves))
+            window, kinds, numbers = f.window()
+            self.assertEqual(outcome(tree.query, window), outcome(expected_hit, f.known, n, f.tree, kinds, numbers))
+            refused = self.same(f.given, f.known, n, fanout, f.damaged(leaves))
+            refusals.add(0 if isinstance(refused, bytes) else refused[1])
+        self.assertLessEqual({0, 2, 9}, refusals)
+
+    def test_zeros(self):
+        """Between 0.0 and -0.0 each end has the bytes of the first child, in every order of four."""
+        for kind in ("float32", "float64"):
+            given, known = tb.Description([kind], 1, 32), rules.Description([kind], 1, 32)
+            for signs in range(2**8):
+                ends = [struct.pack(rules.KINDS[kind].format, -0.0 if signs >> i & 1 else 0.0) for i in range(8)]
+                body = self.same(given, known, 4, 2, b"".join(ends))
+                self.assertEqual(body[16 : 16 + 2 * len(ends[0])], ends[0] + ends[1])
+
+    def test_checks_in_order(self):
+        bad, leaves, one = tb.Description(["int32"], 1, 0), pieces.box(["int32"] * 2, [(5, 4), (3, 2)]), pieces.box(["int32"], [(4, 5)])
+        real, nan = tb.Description(["float64"], 1, 32), pieces.box(["float64"] * 2, [(0.0, 1.0), (1.0, math.nan)])
+        for given, n, fanout, data, room, expected in (
+            (bad, 0, 1, b"", 0, (1, 0)), (ONE, 0, 1, b"", 0, (10, 0)), (ONE, 2, 1, b"", 0, (13, 0)), (ONE, 2, 1025, b"", 0, (13, 0)),
+            (ONE, 3, 2, leaves, 0, (2, 16)), (ONE, 2, 2, leaves, 0, (9, 0)), (ONE, 2, 2, leaves[:8] + leaves, 0, (2, 24)),
+            (ONE, 1, 2, one, 23, (26, 0)), (real, 2, 2, nan, 0, (8, 16)), (ONE, 2**64 + 1, 2, leaves, 0, (10, 0)), (ONE, 2, 2**32 + 2, leaves, 0, (13, 0)),
+            (ONE, -1, -1, b"", 0, (10, 0)),
+        ):
+            self.assertEqual(outcome(tb.write_tree_into, given, n, fanout, data, bytearray(room)), ("refused", *expected, 0))
+            if expected != (26, 0):
+                self.assertEqual(outcome(tb.write_tree, given, n, fanout, data), ("refused", *expected, 0))
+        for given in BAD_DESCRIPTIONS:
+            self.assertEqual(outcome(tb.write_tree, given, 1, 2, one), ("refused", 1, 0, 0))
+            self.assertEqual(outcome(tb.tree_length, given, 1, 2), ("refused", 1, 0, 0))
+
+    def test_buffers(self):
+        leaves, body = SAMPLE["tree"][56:], SAMPLE["tree"]
+        held = bytearray(200)
+        self.assertEqual(tb.write_tree_into(ONE, 3, 2, leaves, memoryview(held)[10:110]), 80)
+        self.assertEqual(held, bytes(10) + body + bytes(110))
+        with mmap.mmap(-1, 4096) as mapped:
+            self.assertEqual(tb.write_tree_into(ONE, 3, 2, memoryview(leaves), mapped), 80)
+            self.assertEqual(mapped[:81], body + b"\0")
+        numbers = array.array("Q", [0] * 10)
+        self.assertEqual((tb.write_tree_into(ONE, 3, 2, leaves, numbers), numbers.tobytes()), (80, body))
+        for out in (bytes(80), memoryview(bytes(80)), memoryview(bytearray(160))[::2]):
+            self.assertRaises(TypeError, tb.write_tree_into, ONE, 3, 2, leaves, out)
+        for out in ("text", 80, None):
+            self.assertRaises(TypeError, tb.write_tree_into, ONE, 3, 2, leaves, out)
+        both = bytearray(leaves + bytes(80))
+        whole = memoryview(both)
+        for start in (0, 23):
+            self.assertRaises(ValueError, tb.write_tree_into, ONE, 3, 2, whole[:24], whole[start:])
+        self.assertEqual(both, leaves + bytes(80))
+        self.assertEqual(tb.write_tree_into(ONE, 3, 2, whole[:24], whole[24:]), 80)
+        self.assertEqual(both, leaves + body)
+        whole.release()
+        both += b"x"  # nothing is held any more
+
+
 class Header(unittest.TestCase):
     def setUp(self):
         self.header = (root / "include/tussockbell.h").read_text()
@@ -957,7 +1052,7 @@ class Header(unittest.TestCase):
         """Parameters and results as the header declares them."""
         types = {"uint64_t": ctypes.c_uint64, "size_t": ctypes.c_size_t, "void": None}
         declared = re.findall(r"^(\w+) tussockbell_(\w+)\(([^;{]*)\);", self.header, re.M)
-        self.assertEqual(len(declared), 18)
+        self.assertEqual(len(declared), 20)
         asked = {name for name in vars(tb) if name.startswith("_c_")}
         self.assertEqual({"_c_" + name for _, name, _ in declared} - asked, {"_c_extent", "_c_var_extent", "_c_report"})
         for result, name, parameters in declared:

@@ -63,6 +63,7 @@ class Refusal:
     WORK = 21
     RUNS = 22
     INFINITE = 23
+    ROOM = 26
 
 
 def allowed(what, x):
@@ -385,6 +386,56 @@ def flat(d, n, body, window):
             if meets(stored_box(d, body, starts[level] + k * b), window):
                 count += min(f, counts[level + 1] - k * f)
     return listing, count
+
+
+# ---- writing a tree
+
+
+def least_box(d, row):
+    """The bytes of the least box around a row of boxes: each end's are those of the first box that has it."""
+    box, at = b"", 0
+    for kind in d.kinds[: d.dimensions]:
+        half = KINDS[kind].range_bytes // 2
+        low = high = row[0]
+        for other in row[1:]:
+            if stored_range(kind, other, at)[0] < stored_range(kind, low, at)[0]:
+                low = other
+            if stored_range(kind, other, at)[1] > stored_range(kind, high, at)[1]:
+                high = other
+        box += low[at : at + half] + high[at + half : at + 2 * half]
+        at += 2 * half
+    return box
+
+
+def tree_length(d, n, f):
+    d.check()
+    if not allowed("tiles", n):
+        raise Refused(Refusal.TILES, 0)
+    if not allowed("fanout", f):
+        raise Refused(Refusal.FANOUT, 0)
+    counts = level_counts(n, f)
+    return 8 + 8 * len(counts) + d.box_bytes() * sum(counts)
+
+
+def write_tree(d, n, f, leaves, room):
+    """The body, for an output buffer of so many bytes."""
+    length = tree_length(d, n, f)
+    b = d.box_bytes()
+    if len(leaves) != n * b:
+        raise Refused(Refusal.BYTES, len(leaves))
+    for k in range(n):
+        check_ranges(d, leaves, k * b)
+    if room < length:
+        raise Refused(Refusal.ROOM, 0)
+    levels = [[leaves[k * b : k * b + b] for k in range(n)]]
+    while len(levels[0]) > 1:
+        below = levels[0]
+        levels.insert(0, [least_box(d, below[k : k + f]) for k in range(0, len(below), f)])
+    body = f.to_bytes(4, "little") + len(levels).to_bytes(4, "little")
+    for level in levels:
+        body += len(level).to_bytes(8, "little") + b"".join(level)
+    assert len(body) == length
+    return body
 
 
 # ---- lists

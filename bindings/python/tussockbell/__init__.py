@@ -10,6 +10,7 @@
     offsets = tb.tile_offsets(footer.tiles, data_file_size, list_bytes)
     for tile in hit.tiles:
         offset, extent = offsets[tile]
+    body = tb.write_tree(d, tiles, fanout, leaf_boxes)
 
 Every function asks the proved library, and raises `Refused`, with a number and a place, where the library refuses.
 docs/RULES.md has the rules. Numbers outside the limits are refused like any other bad input, however large or small they are.
@@ -42,7 +43,8 @@ from typing import Any, NamedTuple, Optional, Protocol, SupportsFloat, SupportsI
 
 __all__ = [
     "Description", "Footer", "Hit", "Offsets", "Opened", "Refused", "Tree", "TreeParts", "Window",
-    "box_test", "open_tree", "query", "query_batch", "read_footer", "tile_offsets", "tile_sizes", "var_tile_offsets",
+    "box_test", "open_tree", "query", "query_batch", "read_footer", "tile_offsets", "tile_sizes", "tree_length",
+    "var_tile_offsets", "write_tree", "write_tree_into",
 ]
 
 __version__ = "0.2.0"
@@ -97,6 +99,7 @@ _TEXTS = {
     21: "the work buffer is too short",
     22: "the answer run is not as long as the query run",
     23: "a stored range end is infinite",
+    26: "the output buffer is too short",
 }
 
 _NUMBER, _PLACE = 0, 1
@@ -111,6 +114,7 @@ _BOX_TEST_MEETS, _BOX_TEST_READ, _BOX_TEST_PLACES = 2, 3, 4
 _OFFSETS_TILES, _OFFSETS_PLACES = 2, 3
 _EXTENT_OFFSET, _EXTENT_LENGTH, _EXTENT_PLACES = 0, 1, 2
 _SIZES_SUM, _SIZES_PLACES = 2, 3
+_WRITE_LENGTH, _WRITE_PLACES = 2, 3
 
 # Places of the footer's answer, by the attribute that they become.
 _FOOTER_NUMBERS = {
@@ -165,6 +169,8 @@ _c_offsets = _function("offsets", [*_list, _pointer])
 _c_var_offsets = _function("var_offsets", [*_list, _pointer])
 _c_extent_at = _function("extent_at", [*_list, _u64, _pointer])
 _c_sizes = _function("sizes", [_u64, *_bytes, _pointer])
+_c_write_tree = _function("write_tree", [*_description, _u64, _u64, *_bytes, *_bytes, _pointer])
+_c_tree_length = _function("tree_length", [*_description, _u64, _u64, _pointer])
 
 _FooterAnswer = _u64 * _FOOTER_PLACES
 _NameAnswer = _u64 * _NAME_PLACES
@@ -176,6 +182,7 @@ _BoxTestAnswer = _u64 * _BOX_TEST_PLACES
 _OffsetsAnswer = _u64 * _OFFSETS_PLACES
 _ExtentAnswer = _u64 * _EXTENT_PLACES
 _SizesAnswer = _u64 * _SIZES_PLACES
+_WriteAnswer = _u64 * _WRITE_PLACES
 
 
 class Refused(Exception):
@@ -882,3 +889,58 @@ def tile_sizes(tiles: SupportsIndex, sizes: Bytes) -> int:
         _c_sizes(_limited(tiles), *_lent(view), answer)
     _check(answer)
     return answer[_SIZES_SUM]
+
+
+# ---- writing trees
+
+
+def tree_length(description: Description, tiles: SupportsIndex, fanout: SupportsIndex) -> int:
+    """How many bytes a tree of so many tiles has."""
+    answer = _WriteAnswer()
+    _c_tree_length(*description._given, _limited(tiles), _limited(fanout), answer)
+    _check(answer)
+    return answer[_WRITE_LENGTH]
+
+
+def _write(description: Description, tiles: int, fanout: int, leaves: tuple[Optional[int], int], out: memoryview) -> int:
+    answer = _WriteAnswer()
+    _c_write_tree(*description._given, tiles, fanout, *leaves, *_lent(out), answer)
+    _check(answer)
+    return answer[_WRITE_LENGTH]
+
+
+def write_tree(description: Description, tiles: SupportsIndex, fanout: SupportsIndex, leaves: Bytes) -> bytes:
+    """Writes the whole R-tree body of so many leaf boxes, which stand one after the other in `leaves`.
+
+    A leaf box is the minimum and the maximum of each dimension, little-endian, of that dimension's kind. Each box above the
+    leaves is the least box around its row of children. `open_tree` accepts the body with every footer of this description and
+    this number of tiles whose domain holds the first box.
+    """
+    number, most = _limited(tiles), _limited(fanout)
+    length = tree_length(description, number, most)
+    box_bytes = sum(2 * _WIDTHS[kind] for kind in description._given[0])
+    with _lend(leaves) as view:
+        lent = _lent(view)
+        # Leaves of another length are refused whatever the room is.
+        out = bytearray(length if lent[1] == number * box_bytes else 0)
+        with memoryview(out) as room:
+            _write(description, number, most, lent, room)
+    return bytes(out)
+
+
+def write_tree_into(
+    description: Description, tiles: SupportsIndex, fanout: SupportsIndex, leaves: Bytes, out: Union[bytearray, memoryview, mmap.mmap]
+) -> int:
+    """Writes the body to the start of a buffer that is lent, and returns its length. Bytes past it stay as they are.
+
+    Where it is refused the buffer stays as it is; 26 says that all else is well and the buffer is too short. It must be one that
+    can be written to, with its bytes one after the other, and must not overlap the leaves.
+    """
+    with memoryview(out) as room:
+        if room.readonly or not room.c_contiguous:
+            raise TypeError("the buffer to write to is read-only, or its bytes do not lie one after the other")
+        with _lend(leaves) as view:
+            (start, length), (to, space) = _lent(view), _lent(room)
+            if length and space and start is not None and to is not None and start < to + space and to < start + length:
+                raise ValueError("the leaves and the buffer to write to overlap")
+            return _write(description, _limited(tiles), _limited(fanout), (start, length), room)

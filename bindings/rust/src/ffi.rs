@@ -9,7 +9,7 @@
 use crate::batch::Record;
 use crate::places::{
     BATCH_PLACES, BOX_TEST_PLACES, EXTENT_PLACES, FOOTER_PLACES, NAME_PLACES, OFFSETS_PLACES, OPEN_PLACES,
-    PARTS_PLACES, QUERY_PLACES, RECORD_PLACES, SIZES_PLACES,
+    PARTS_PLACES, QUERY_PLACES, RECORD_PLACES, SIZES_PLACES, WRITE_PLACES,
 };
 use crate::{Description, Kind};
 
@@ -46,6 +46,11 @@ extern "C" {
     fn tussockbell_var_offsets(tiles: u64, size: u64, list: *const u8, list_length: usize, answer: *mut u64);
     fn tussockbell_extent_at(tiles: u64, size: u64, list: *const u8, list_length: usize, tile: u64, answer: *mut u64);
     fn tussockbell_sizes(tiles: u64, list: *const u8, list_length: usize, answer: *mut u64);
+    fn tussockbell_write_tree(kinds: *const u8, kinds_length: usize, fields: u64, capacity: u64, tiles: u64,
+                              fanout: u64, leaves: *const u8, leaves_length: usize, out: *mut u8, out_length: usize,
+                              answer: *mut u64);
+    fn tussockbell_tree_length(kinds: *const u8, kinds_length: usize, fields: u64, capacity: u64, tiles: u64,
+                               fanout: u64, answer: *mut u64);
     fn tussockbell_report(description: *const u8, description_length: usize, footer: *const u8, footer_length: usize,
                           tree: *const u8, tree_length: usize, offsets: *const u8, offsets_length: usize,
                           out: *mut u8, out_length: usize) -> usize;
@@ -242,6 +247,41 @@ pub(crate) fn sizes(tiles: u64, list: &[u8]) -> [u64; SIZES_PLACES] {
     let mut answer = [0; SIZES_PLACES];
     // SAFETY: a slice's pointer and length, and an answer array of the header's places.
     unsafe { tussockbell_sizes(tiles, list.as_ptr(), list.len(), answer.as_mut_ptr()) };
+    answer
+}
+
+pub(crate) fn write_tree(
+    d: &Description,
+    tiles: u64,
+    fanout: u64,
+    leaves: &[u8],
+    out: &mut [u8],
+) -> [u64; WRITE_PLACES] {
+    let mut answer = [0; WRITE_PLACES];
+    // SAFETY: pointers and lengths of slices, an answer array of the header's places, and a buffer lent to nobody else.
+    unsafe {
+        tussockbell_write_tree(
+            bytes(d.kinds),
+            d.kinds.len(),
+            d.fields,
+            d.capacity,
+            tiles,
+            fanout,
+            leaves.as_ptr(),
+            leaves.len(),
+            out.as_mut_ptr(),
+            out.len(),
+            answer.as_mut_ptr(),
+        )
+    };
+    answer
+}
+
+pub(crate) fn tree_length(d: &Description, tiles: u64, fanout: u64) -> [u64; WRITE_PLACES] {
+    let mut answer = [0; WRITE_PLACES];
+    let (kinds, kinds_length) = (bytes(d.kinds), d.kinds.len());
+    // SAFETY: a slice's pointer and length, and an answer array of the header's places.
+    unsafe { tussockbell_tree_length(kinds, kinds_length, d.fields, d.capacity, tiles, fanout, answer.as_mut_ptr()) };
     answer
 }
 

@@ -10,6 +10,7 @@
 //! - [`query`] answers a window over a tree's plain bytes, [`query_batch`] all windows of a batch in one call.
 //! - [`box_test`] tests one box against a window, and tells how many dimensions it read.
 //! - [`tile_offsets`], [`var_tile_offsets`] and [`tile_sizes`] read a field's lists.
+//! - [`write_tree`] writes an R-tree from its leaf boxes, and [`tree_length`] tells how many bytes it has.
 //! - [`report`] writes the report of four files as text.
 //!
 //! Every function takes any input. Bad input is [`Refused`], with a number and a place, and a result buffer then holds
@@ -50,6 +51,7 @@ mod places;
 mod ranges;
 mod refused;
 mod tree;
+mod write;
 
 pub use batch::{query_batch, query_batch_bytes, Record};
 pub use footer::{read_footer, Footer};
@@ -58,6 +60,7 @@ pub use parts::{Opened, TreeParts};
 pub use ranges::{Description, Kind, Range};
 pub use refused::{Refused, Which};
 pub use tree::{box_test, open_tree, query, Answer, Tested, Tree};
+pub use write::{tree_length, write_tree};
 
 /// The version of this crate, which is that of the library and its header.
 pub const VERSION: &str = env!("CARGO_PKG_VERSION");

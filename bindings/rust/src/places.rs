@@ -67,4 +67,6 @@ places! {
     EXTENT_PLACES = 2;
     SIZES_SUM = 2;
     SIZES_PLACES = 3;
+    WRITE_LENGTH = 2;
+    WRITE_PLACES = 3;
 }

@@ -76,6 +76,7 @@ refusals! {
     21 WORK "the work buffer is too short";
     22 RUNS "the answer run is not as long as the query run";
     23 INFINITE "a stored range end is infinite";
+    26 ROOM "the output buffer is too short";
 }
 
 impl Refused {

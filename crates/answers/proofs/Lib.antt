@@ -1,6 +1,7 @@
 -- The laws that belong to no one function.
 pub mod Runs
 pub mod Filled
+pub mod Joined
 pub mod Checks
 pub mod Laid
 pub mod Written

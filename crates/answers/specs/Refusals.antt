@@ -101,3 +101,7 @@ runs = 22
 -- a stored range end is infinite
 abbrev pub infinite : ℕ
 infinite = 23
+
+-- the output buffer is too short
+abbrev pub room : ℕ
+room = 26

@@ -57,6 +57,8 @@ impl Refusal {
 
     pub const INFINITE: u64 = 23;
 
+    pub const ROOM: u64 = 26;
+
     pub fn none() -> Refusal
         ensures { λ r. ⌜ r ≡ none ⌝ }
     {

@@ -2,6 +2,8 @@
 pub mod Carrying
 pub mod Walking
 pub mod Boxes
+pub mod Holding
+pub mod Least
 pub mod Moving
 pub mod Within
 pub mod Windows

@@ -1,4 +1,5 @@
 -- The definitions that this crate's contracts, and every crate above, cite.
 pub mod Boxes
 pub mod Windows
+pub mod Least
 pub mod Code

@@ -12,7 +12,7 @@ use Rattle.answers.proofs.Runs.{Each, over-ext, over-snoc}
 use Rattle.description.specs.declared.Kind.{Kind}
 use Rattle.description.specs.declared.Kind.the-variants.{Int32, Int64, Float32, Float64, Uint64}
 use Rattle.description.specs.declared.Dimension.{Dimension}
-use Rattle.description.specs.Kinds.{rangeBytes}
+use Rattle.description.specs.Kinds.{rangeBytes, endBytes}
 use Rattle.description.specs.Description.{kindAt, sideStart}
 
 pub range-bytes-most : (k : Kind) → (8 ≤ rangeBytes k) × (rangeBytes k ≤ 16)
@@ -21,6 +21,14 @@ range-bytes-most Int64 = (omega arith, omega arith)
 range-bytes-most Float32 = (omega arith, omega arith)
 range-bytes-most Float64 = (omega arith, omega arith)
 range-bytes-most Uint64 = (omega arith, omega arith)
+
+-- a range is two ends
+pub two-ends : (k : Kind) → rangeBytes k ≡ endBytes k + endBytes k
+two-ends Int32 = refl
+two-ends Int64 = refl
+two-ends Float32 = refl
+two-ends Float64 = refl
+two-ends Uint64 = refl
 
 module _ (kinds : List Dimension) where
   pub start-first : sideStart kinds 0 ≡ 0

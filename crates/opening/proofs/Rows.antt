@@ -4,7 +4,7 @@
 -- Assumes nothing.
 use mathlib.Core.Path.{_≡_, refl, ap, sym, _∙_}
 use mathlib.Core.Bool.{Bool, true, false, not, cond}
-use mathlib.Core.List.{List, [], _∷_}
+use mathlib.Core.List.{List}
 use Prim.Native.Nat.{ℕ, zero, suc, _+_, _-_, _*_, _/_, _≤_, _<_, min}
 use native.Mathlib.Nat.{add-zero, zero-add, add-assoc, add-suc, suc-add}
 use native.Mathlib.Nat.{mul-le-mul-right, mul-le-mul-left, div-eq-of-lt-le, div-mul-le-self}
@@ -12,14 +12,15 @@ use native.Mathlib.Decide.{decLe}
 use native.Mathlib.Omega.{arith}
 use lib.Dec.{eqb}
 use lib.ListN.{length, take, drop, length-take, length-drop}
-use lib.Seq.{take-take, drop-drop, take-nil}
+use lib.Seq.{drop-drop}
 use borrow.Author.Tests.{ne-eqb}
 use Rattle.answers.specs.Refusals.{refusal, none, outsideParent}
 use Rattle.answers.specs.Runs.{over}
 use Rattle.answers.specs.Checks.{check, otherwise, each}
 use Rattle.answers.specs.declared.Refusal.{Refusal}
 use Rattle.answers.proofs.Runs.{over-ext, over-map}
-use Rattle.answers.proofs.Checks.{either, each-has, each-add, none-left}
+use Rattle.answers.proofs.Joined.{part-of-part}
+use Rattle.answers.proofs.Checks.{either, each-has, each-add}
 use Rattle.description.specs.declared.Dimension.{Dimension}
 use Rattle.description.specs.declared.Description.{Description}
 use Rattle.description.specs.Description.{sideStart, sidesOf, boxBytes}
@@ -86,13 +87,6 @@ module _ (kinds : List Dimension) (m : ℕ) (outer : List ℕ) (number : ℕ) wh
       (λ i low high.
       let box = box-place (take b (drop (i * b) row)) (i * b) in
       omega (arith, box, mul-le-mul-right b high, div-mul-le-self (length row) b))
-
--- a part of a part
-pub part-of-part : (l : List ℕ) (k b m : ℕ) → k + b ≤ m → take b (drop k (take m l)) ≡ take b (drop k l)
-part-of-part l zero b m h = take-take b m l (omega arith)
-part-of-part l (suc k) b zero h = absurd (omega arith)
-part-of-part [] (suc k) b (suc m) h = refl
-part-of-part (x ∷ l) (suc k) b (suc m) h = part-of-part l k b m (omega arith)
 
 -- two runs that say the same, one of them further on
 pub each-from : (g h : ℕ → Refusal) (a b m : ℕ) → ((i : ℕ) → i < m → g (a + i) ≡ h (b + i)) → each g a m ≡ each h b m

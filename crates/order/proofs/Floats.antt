@@ -3,8 +3,8 @@
 -- the four cases of two patterns the comparison is that of a sign and a magnitude. Assumes nothing.
 use mathlib.Core.Path.{_≡_, refl, sym, ap, _∙_, subst}
 use mathlib.Core.Logic.{_⊎_, inl, inr}
-use Prim.Native.Nat.{ℕ, zero, suc, _+_, _-_, _*_, _/_, _%_, _^_, _<_}
-use native.Mathlib.Nat.{le-trans, le-of-eq, lt-irrefl, eq-or-lt-of-le, le-of-lt, mul-comm, mul-assoc, mul-right-comm, mul-le-mul-right, le-of-mul-le-mul-right, mul-pos, zero-mul, zero-lt-suc, div-lt-iff-lt-mul, mod-lt, mod-mod-of-dvd, dvd-mul-right, mul-div-cancel, mul-mod-left}
+use Prim.Native.Nat.{ℕ, zero, suc, _+_, _-_, _*_, _/_, _%_, _^_, _≤_, _<_}
+use native.Mathlib.Nat.{le-trans, le-of-eq, lt-irrefl, eq-or-lt-of-le, le-of-lt, mul-comm, mul-assoc, mul-right-comm, mul-le-mul-right, le-of-mul-le-mul-right, mul-pos, zero-mul, zero-lt-suc, div-lt-iff-lt-mul, mod-lt, mod-eq-of-lt, mod-eq-sub-mod, mod-mod-of-dvd, dvd-mul-right, mul-div-cancel, mul-mod-left}
 use native.Mathlib.Omega.{arith}
 use mathlib.Core.Bool.{Bool, true, false, not, _&&_, cond, true≢false}
 use lib.Dec.{T, leb, eqb, leb→le, le→leb, nltb→le, eqb→eq, not-T}
@@ -15,7 +15,7 @@ use lib.Ieee.Bits.{nanBits-above, nanBits-is, ofBits-toBits, is-true, is-false, 
 use lib.Ieee.Exact.{HasValue, odd-sign}
 use lib.Ieee.Fits.{down-pos}
 use denote.Floats.{passes}
-use borrow.Author.Tests.{eq-eqb}
+use borrow.Author.Tests.{eq-eqb, le-leb, lt-leb}
 use Rattle.order.specs.Key.{floatKey, floatAtMost}
 use Rattle.order.proofs.Tests.{same-test, no-and, clash}
 use Rattle.order.proofs.Sides.{atMost, atMost-cong, either-is, about-middle}
@@ -195,3 +195,12 @@ pub le-of-floats : (f : Format) (x y : Float) → fits f x ≡ true → fits f y
 le-of-floats f x y h k =
     (λ i. le (sym (ofBits-toBits f x (passes (fits f x) h)) i) (sym (ofBits-toBits f y (passes (fits f y) k)) i))
     ∙ le-of-bits f (toBits f x) (toBits f y)
+
+-- ---- a key as code works it out
+pub above-middle : (f : Format) (p : ℕ) → p < top f → top f + p ≡ floatKey f p
+unfolding floatKey
+above-middle f p h = rw (lt-leb (top f) p h, mod-eq-of-lt h)
+
+pub below-middle : (f : Format) (p : ℕ) → top f ≤ p → p - top f < top f → top f - (p - top f) ≡ floatKey f p
+unfolding floatKey
+below-middle f p h l = rw (le-leb (top f) p h, mod-eq-sub-mod h, mod-eq-of-lt l)

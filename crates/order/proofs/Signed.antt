@@ -22,14 +22,14 @@ use Rattle.order.proofs.Tests.{same-test, under-or-not}
 abbrev half : Width → ℕ
 half w = 2 ^ hbits w
 
-lower : (w : Width) (n : ℕ) → n < half w → signedKey w n ≡ n + half w
+pub lower : (w : Width) (n : ℕ) → n < half w → signedKey w n ≡ n + half w
 unfolding signedKey
 lower w n l = mod-eq-of-lt (fit (half w) (2 ^ bits w) (pow-bits w) l)
   where
     fit : (h N : ℕ) → N ≡ h * 2 → n < h → n + h < N
     fit h N e k = omega arith
 
-upper : (w : Width) (n : ℕ) → half w ≤ n → n < 2 ^ bits w → signedKey w n ≡ n - half w
+pub upper : (w : Width) (n : ℕ) → half w ≤ n → n < 2 ^ bits w → signedKey w n ≡ n - half w
 unfolding signedKey
 upper w n l k =
     mod-eq-sub-mod (reach (half w) (2 ^ bits w) (pow-bits w) l)

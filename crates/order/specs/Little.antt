@@ -1,7 +1,7 @@
--- Which number do the bytes at a place of a byte string stand for? Assumes nothing.
-use Prim.Native.Nat.{ℕ, zero, suc, _+_, _*_}
+-- Which number do the bytes at a place of a byte string stand for, and which bytes stand for a number? Assumes nothing.
+use Prim.Native.Nat.{ℕ, zero, suc, _+_, _*_, _/_, _%_}
 use mathlib.Core.Bool.{cond}
-use mathlib.Core.List.{List}
+use mathlib.Core.List.{List, [], _∷_}
 use lib.Dec.{leb}
 use lib.ListN.{length, getD}
 
@@ -16,3 +16,8 @@ firstOfTwo s at m = cond (leb (at + (m + m)) (length s)) (little s at m) 0
 
 unfoldable pub secondOfTwo : List ℕ → ℕ → ℕ → ℕ
 secondOfTwo s at m = cond (leb (at + (m + m)) (length s)) (little s (at + m) m) 0
+
+-- The m bytes of a number, the lowest first.
+unfoldable pub bytesOf : ℕ → ℕ → List ℕ
+bytesOf zero x = []
+bytesOf (suc m) x = x % 256 ∷ bytesOf m (x / 256)

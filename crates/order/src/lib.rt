@@ -1,15 +1,16 @@
 // What do bytes and bit patterns stand for, and in which order? Little-endian reads, the values of patterns, and
 // comparisons whose contracts speak of the patterns alone.
 ghost use mathlib.Core.Path.{_≡_};
-ghost use mathlib.Core.Bool.{not, _&&_};
-ghost use Prim.Native.Nat.{_+_, _-_, _≤_, _<_};
+ghost use mathlib.Core.Bool.{not, _&&_, cond};
+ghost use Prim.Native.Nat.{_+_, _-_, _%_, _≤_, _<_};
 ghost use lib.Dec.{leb};
 ghost use lib.ListN.{length};
+ghost use lib.Seq.{sets};
 ghost use lib.Ieee.{binary32, binary64, toBits, ofBits, nanBits};
 ghost use mir.Syntax.{w32, w64};
 ghost use mir.Val.{toZ, ofZ};
-ghost use Rattle.order.specs.Little.{little, firstOfTwo, secondOfTwo};
-ghost use Rattle.order.specs.Key.{floatAtMost, infinite, signedAtMost};
+ghost use Rattle.order.specs.Little.{little, firstOfTwo, secondOfTwo, bytesOf};
+ghost use Rattle.order.specs.Key.{floatKey, floatAtMost, infinite, signedKey, signedAtMost};
 
 // The four bytes at a place. A byte past the end counts 0.
 pub fn u32_at(s: &[u8], at: usize) -> u32
@@ -40,6 +41,33 @@ pub fn u64_at(s: &[u8], at: usize) -> u64
         }
     } else {
         0
+    }
+}
+
+// The four bytes of a number go to a place, if they all fit there.
+pub fn put_u32(out: &mut [u8], at: usize, x: u32)
+    ensures { λ _. ⌜ now (out .exit) ≡ cond (leb (at + 4) (length (now (out .entry))))
+        (sets (now (out .entry)) at (bytesOf 4 x)) (now (out .entry)) ⌝ }
+{
+    let n = out.len();
+    if at <= n {
+        if 4 <= n - at {
+            store_four(out, at, x);
+        }
+    }
+}
+
+// The eight bytes of a number, likewise.
+pub fn put_u64(out: &mut [u8], at: usize, x: u64)
+    ensures { λ _. ⌜ now (out .exit) ≡ cond (leb (at + 8) (length (now (out .entry))))
+        (sets (now (out .entry)) at (bytesOf 8 x)) (now (out .entry)) ⌝ }
+{
+    let n = out.len();
+    if at <= n {
+        if 8 <= n - at {
+            store_four(out, at, (x % 0x1_0000_0000) as u32);
+            store_four(out, at + 4, (x / 0x1_0000_0000) as u32);
+        }
     }
 }
 
@@ -222,6 +250,50 @@ pub fn f64_is_nan(x: f64) -> bool
     x != x
 }
 
+// The key of a two's complement pattern: the order of the keys is that of the numbers.
+pub fn i32_key(p: u32) -> u32
+    ensures { λ r. ⌜ r ≡ signedKey w32 p ⌝ }
+{
+    if p < 0x8000_0000 {
+        p + 0x8000_0000
+    } else {
+        p - 0x8000_0000
+    }
+}
+
+// The same of 64 bits.
+pub fn i64_key(p: u64) -> u64
+    ensures { λ r. ⌜ r ≡ signedKey w64 p ⌝ }
+{
+    if p < 0x8000_0000_0000_0000 {
+        p + 0x8000_0000_0000_0000
+    } else {
+        p - 0x8000_0000_0000_0000
+    }
+}
+
+// The key of a float's pattern: where there is no NaN, the order of the keys is that of IEEE 754.
+pub fn f32_key(p: u32) -> u32
+    ensures { λ r. ⌜ r ≡ floatKey binary32 p ⌝ }
+{
+    if p < 0x8000_0000 {
+        0x8000_0000 + p
+    } else {
+        0x8000_0000 - (p - 0x8000_0000)
+    }
+}
+
+// The same of 64 bits.
+pub fn f64_key(p: u64) -> u64
+    ensures { λ r. ⌜ r ≡ floatKey binary64 p ⌝ }
+{
+    if p < 0x8000_0000_0000_0000 {
+        0x8000_0000_0000_0000 + p
+    } else {
+        0x8000_0000_0000_0000 - (p - 0x8000_0000_0000_0000)
+    }
+}
+
 // The two ends of a range.
 pub struct Pair32 {
     pub low: u32,
@@ -291,6 +363,27 @@ fn eight(s: &[u8], at: usize) -> u64
     let low = four(s, at);
     let high = four(s, at + 4);
     low as u64 + 0x1_0000_0000 * (high as u64)
+}
+
+// The room for all four bytes is there. With one store a byte this compiles to one store.
+fn store_four(out: &mut [u8], at: usize, x: u32)
+    requires { ⌜ at + 4 ≤ length (now out) ⌝ }
+    ensures { λ _. ⌜ now (out .exit) ≡ sets (now (out .entry)) at (bytesOf 4 x) ⌝ }
+{
+    let second = x / 256;
+    let third = second / 256;
+    let fourth = third / 256;
+    out[at] = lowest(x);
+    out[at + 1] = lowest(second);
+    out[at + 2] = lowest(third);
+    out[at + 3] = lowest(fourth);
+}
+
+// The lowest byte of a number.
+fn lowest(x: u32) -> u8
+    ensures { λ r. ⌜ r ≡ x % 256 ⌝ }
+{
+    (x % 256) as u8
 }
 
 // Fewer than eight bytes are left: the number of those, which is that of eight.

@@ -8,7 +8,7 @@ use native.Mathlib.Nat.{zero-add, suc-add, add-suc}
 use native.Mathlib.Omega.{arith}
 use lib.ListN.{length, take, drop, length-take, length-drop, length-append}
 use lib.Seq.{paste, take-paste, take-take, take-add, drop-drop, drop-append-le, take-append-le, take-nil, drop-nil, take-length}
-use Rattle.opening.proofs.Rows.{part-of-part}
+use Rattle.answers.proofs.Joined.{part-of-part}
 use Rattle.parts.specs.Code.State.{Reads}
 
 pub take-drop : (n m : ℕ) (l : List ℕ) → take m (drop n l) ≡ drop n (take (n + m) l)

@@ -7,7 +7,7 @@ ghost use Prim.Native.Nat.{_%_, _^_, _<_};
 ghost use lib.Ieee.{binary32, binary64, toBits};
 ghost use mir.Syntax.{w32, w64};
 ghost use mir.Val.{ofZ};
-ghost use Rattle.description.specs.Kinds.{endBytes, ordered, atMost};
+ghost use Rattle.description.specs.Kinds.{endBytes, key, ordered, atMost};
 ghost use Rattle.ranges.specs.Ranges.{kindOf, endsOf, endsAt, fitted, rangeOf, rangeAt};
 ghost use Rattle.ranges.specs.Ranges.{verdict, storedRefusal, askedRefusal, inside, meets};
 
@@ -256,6 +256,20 @@ pub fn patterns_at(bytes: &[u8], at: usize, kind: Kind) -> Patterns
                 high: ends.high,
             }
         }
+    }
+}
+
+// The key of an end's pattern, which is in the lowest bytes of a number: the order of a kind's ends is that of their
+// keys.
+pub fn key_of(kind: Kind, pattern: u64) -> u64
+    ensures { λ r. ⌜ r ≡ key kind (fitted kind pattern) ⌝ }
+{
+    match kind {
+        Kind::Int32 => order::i32_key(lower(pattern)) as u64,
+        Kind::Int64 => order::i64_key(pattern),
+        Kind::Float32 => order::f32_key(lower(pattern)) as u64,
+        Kind::Float64 => order::f64_key(pattern),
+        Kind::Uint64 => pattern,
     }
 }
 

@@ -11,6 +11,7 @@ pub enum Case {
     BoxTest { d: Description, stored: Vec<u8>, kinds: Vec<u8>, ends: Vec<u8> },
     Offsets { var: bool, tiles: u64, size: u64, list: Vec<u8>, tile: u64 },
     Sizes { tiles: u64, list: Vec<u8> },
+    Write { d: Description, tiles: u64, fanout: u64, leaves: Vec<u8>, room: usize },
     Report { description: Vec<u8>, footer: Vec<u8>, tree: Vec<u8>, offsets: Vec<u8>, room: usize },
 }
 
@@ -480,6 +481,61 @@ fn box_test(c: &mut Chance) -> Case {
     Case::BoxTest { d, stored, kinds, ends }
 }
 
+/// Leaves to write a tree of: rows and levels that just end or just begin, small numbers mostly, both zeros and NaN now and then; and room
+/// around what the body needs.
+fn write(c: &mut Chance) -> Case {
+    let d = description(c);
+    let p = plain(&d);
+    let f = c.of(&[2u64, 2, 3, 4, 10, 1024]);
+    let n = match c.below(12) {
+        0 => 1,
+        1 => f.min(40),
+        2 => (f + 1).min(41),
+        3 => (f * f).min(60),
+        4 => (f * f + 1).min(61),
+        5 => (f * f * f).min(64),
+        6 => (f * f - 1).min(63),
+        _ => 1 + c.below(24),
+    };
+    let (zeros, spread) = (c.one_in(3), c.of(&[2u64, 6, 100]));
+    let mut leaves = vec![];
+    for _ in 0..n {
+        for kind in &p.kinds {
+            let low = c.below(spread) as i64 - spread as i64 / 2;
+            let high = low + c.of(&[0i64, 0, 1, 3, 20]);
+            for x in [low, high] {
+                let float = *kind == FLOAT32.number || *kind == FLOAT64.number;
+                let mut bytes = end(c, *kind, if zeros { 0 } else { x });
+                if float && zeros && c.one_in(2) {
+                    *bytes.last_mut().unwrap() ^= 128;
+                }
+                leaves.extend(bytes);
+            }
+        }
+    }
+    if c.one_in(3) {
+        damage(c, &mut leaves);
+    }
+    if let (Some(nan), true) = (nans(p.kinds[0]).first(), c.one_in(20)) {
+        let length = nan.len().min(leaves.len());
+        leaves[..length].copy_from_slice(&nan[..length]);
+    }
+    let tiles = if c.one_in(30) { c.of(&[0, n + 1, limits::TILES.end() + 1, u64::MAX]) } else { n };
+    let fanout = if c.one_in(30) { c.of(&[0, 1, limits::FANOUT.end() + 1, (1 << 32) + 2, u64::MAX]) } else { f };
+    let length = rules::tree_length(&p, n, f).expect("numbers within the limits");
+    let room = c.of(&[0, 7, length / 2, length - 1, length, length, length, length + 1, length + 40]);
+    Case::Write { d, tiles, fanout, leaves, room }
+}
+
+/// A footer of a description, of so many tiles, with the domain's bytes.
+pub fn footer_around(d: &Description, tiles: u64, domain: &[u8]) -> Vec<u8> {
+    let n = d.fields as usize;
+    let mut data = [&21u32.to_le_bytes()[..], &1u64.to_le_bytes(), b"s", &[0, 0], domain, &tiles.to_le_bytes(), &1u64.to_le_bytes(), &[0, 0]].concat();
+    data.resize(data.len() + 88 * n + 24, 0);
+    data.extend((data.len() as u64).to_le_bytes());
+    data
+}
+
 /// A case's byte strings, to be damaged one byte or one length at a time.
 pub fn parts(case: &mut Case) -> Vec<&mut Vec<u8>> {
     match case {
@@ -489,12 +545,16 @@ pub fn parts(case: &mut Case) -> Vec<&mut Vec<u8>> {
         Case::Batch { tree, kinds, windows, .. } => vec![tree, kinds, windows],
         Case::BoxTest { stored, ends, .. } => vec![stored, ends],
         Case::Offsets { list, .. } | Case::Sizes { list, .. } => vec![list],
+        Case::Write { leaves, .. } => vec![leaves],
         Case::Report { description, footer, tree, offsets, .. } => vec![description, footer, tree, offsets],
     }
 }
 
 pub fn make(c: &mut Chance) -> Case {
-    let what = c.below(13);
+    let what = c.below(15);
+    if what >= 13 {
+        return write(c);
+    }
     if what == 10 {
         return report(c);
     }
@@ -571,6 +631,7 @@ pub enum Slip {
     AllRead,
     MissNotRead,
     NoOpenWindow,
+    LastOfEquals,
 }
 
 /// What a library with this slip would answer, where the slip has a say in the case.
@@ -625,6 +686,19 @@ pub fn wrong(case: &Case, slip: Slip) -> Option<(Vec<u64>, Vec<u32>)> {
         (Case::BoxTest { d, stored, kinds, ends }, Slip::MissNotRead) => {
             let (meets, read) = rules::box_test(d, stored, kinds, ends).ok()?;
             Some((vec![0, 0, u64::from(meets), if meets { read } else { read - 1 }], vec![]))
+        }
+        (Case::Write { d, tiles, fanout, leaves, room }, Slip::LastOfEquals) => {
+            // Of leaves in reverse, the first that has an end is the last of them.
+            let body = rules::write_tree(d, *tiles, *fanout, leaves, *room).ok()?;
+            (*tiles <= *fanout && *tiles > 1).then_some(())?;
+            let b = d.box_bytes();
+            let reversed: Vec<u8> = leaves.chunks(b).rev().flatten().copied().collect();
+            let other = rules::write_tree(d, *tiles, *fanout, &reversed, *room).ok()?;
+            let mut wrong = crate::right(case);
+            for (place, byte) in wrong.1.iter_mut().zip(body[..16].iter().chain(&other[16..16 + b])) {
+                *place = u32::from(*byte);
+            }
+            Some(wrong)
         }
         (Case::Footer { d, file_size, footer, tile }, Slip::LastFull) => {
             let f = rules::footer(d, *file_size, footer).ok()?;

@@ -1,6 +1,6 @@
 //! The exported functions of the library, asked about a case.
 
-use crate::cases::Case;
+use crate::cases::{footer_around, Case};
 use crate::guard::Space;
 use crate::rules::Description;
 
@@ -30,6 +30,10 @@ extern "C" {
     fn tussockbell_var_extent(tiles: u64, size: u64, l: *const u8, ll: usize, tile: u64, answer: *mut u64);
     fn tussockbell_extent_at(tiles: u64, size: u64, l: *const u8, ll: usize, tile: u64, answer: *mut u64);
     fn tussockbell_sizes(tiles: u64, l: *const u8, ll: usize, answer: *mut u64);
+    fn tussockbell_write_tree(
+        k: *const u8, kl: usize, fields: u64, capacity: u64, tiles: u64, fanout: u64, l: *const u8, ll: usize, out: *mut u8, ol: usize, answer: *mut u64,
+    );
+    fn tussockbell_tree_length(k: *const u8, kl: usize, fields: u64, capacity: u64, tiles: u64, fanout: u64, answer: *mut u64);
     fn tussockbell_report(
         d: *const u8, dl: usize, f: *const u8, fl: usize, t: *const u8, tl: usize, o: *const u8, ol: usize, out: *mut u8, outl: usize,
     ) -> usize;
@@ -146,6 +150,25 @@ pub fn ask(case: &Case, mut space: Option<&mut Space>) -> (Vec<u64>, Vec<u32>) {
                 (vec![length as u64], std::slice::from_raw_parts(out, *room).iter().map(|x| *x as u32).collect())
             }
         }
+        Case::Write { d, tiles, fanout, leaves, room } => {
+            let (k, l) = (lend(&d.kinds, &mut space), lend(leaves, &mut space));
+            let mut own = vec![0xa5u8; *room];
+            let out = match &mut space {
+                Some(_) => lend(&own.clone(), &mut space) as *mut u8,
+                None => own.as_mut_ptr(),
+            };
+            let mut answer = vec![u64::MAX; 6];
+            let (kl, fields, capacity) = (d.kinds.len(), d.fields, d.capacity);
+            let written = unsafe {
+                tussockbell_write_tree(k, kl, fields, capacity, *tiles, *fanout, l, leaves.len(), out, *room, answer.as_mut_ptr());
+                tussockbell_tree_length(k, kl, fields, capacity, *tiles, *fanout, answer[3..].as_mut_ptr());
+                std::slice::from_raw_parts(out, *room)
+            };
+            if answer[0] == 0 {
+                opened_again(d, *tiles, *fanout, &written[..answer[2] as usize]);
+            }
+            (answer, written.iter().map(|x| u32::from(*x)).collect())
+        }
         Case::Sizes { tiles, list } => {
             let l = lend(list, &mut space);
             let mut answer = vec![u64::MAX; 3];
@@ -153,6 +176,22 @@ pub fn ask(case: &Case, mut space: Option<&mut Space>) -> (Vec<u64>, Vec<u32>) {
             (answer, vec![])
         }
     }
+}
+
+/// What was written is opened with a footer whose domain is the root, and a window as wide as the root finds every tile.
+fn opened_again(d: &Description, tiles: u64, fanout: u64, tree: &[u8]) {
+    let domain = &tree[16..16 + d.box_bytes()];
+    let footer = footer_around(d, tiles, domain);
+    let (mut opened, mut asked) = ([u64::MAX; 6], [u64::MAX; 4]);
+    let mut out = vec![u32::MAX; tiles as usize];
+    let (k, kl, fields, capacity) = (d.kinds.as_ptr(), d.kinds.len(), d.fields, d.capacity);
+    let (t, tl) = (tree.as_ptr(), tree.len());
+    unsafe {
+        tussockbell_open(k, kl, fields, capacity, u64::MAX, footer.as_ptr(), footer.len(), t, tl, opened.as_mut_ptr());
+        tussockbell_query(k, kl, fields, capacity, tiles, t, tl, k, kl, domain.as_ptr(), domain.len(), out.as_mut_ptr(), out.len(), asked.as_mut_ptr());
+    }
+    assert_eq!(opened[..5], [0, 0, 0, tiles, fanout], "a written tree is not accepted");
+    assert!(asked[..3] == [0, 0, tiles] && out.iter().enumerate().all(|(i, tile)| i == *tile as usize), "a written tree loses a tile");
 }
 
 fn footer_answer(d: &Description, k: *const u8, file: u64, f: *const u8, length: usize, tile: u64) -> Vec<u64> {

@@ -37,7 +37,8 @@ fn slips(seed: u64) {
     let all_read = |case: &Case| cases::wrong(case, cases::Slip::AllRead);
     let miss_not_read = |case: &Case| cases::wrong(case, cases::Slip::MissNotRead);
     let no_open_window = |case: &Case| cases::wrong(case, cases::Slip::NoOpenWindow);
-    let all: [(&str, &dyn Fn(&Case) -> Option<(Vec<u64>, Vec<u32>)>); 13] = [
+    let last_of_equals = |case: &Case| cases::wrong(case, cases::Slip::LastOfEquals);
+    let all: [(&str, &dyn Fn(&Case) -> Option<(Vec<u64>, Vec<u32>)>); 14] = [
         ("strict comparison", &strict),
         ("int32 compared as unsigned", &unsigned),
         ("uint64 compared as signed", &signed),
@@ -51,6 +52,7 @@ fn slips(seed: u64) {
         ("a box test that reads every dimension", &all_read),
         ("the dimension that misses not told as read", &miss_not_read),
         ("a window's infinity refused", &no_open_window),
+        ("the last child's bytes between equal zeros", &last_of_equals),
     ];
     for (name, wrong) in all {
         let caught = (0..200_000).any(|i| {
@@ -85,6 +87,16 @@ impl Tally {
         self.guarded += u64::from(guards);
         if !matches!(case, Case::Report { .. }) {
             *self.refusals.entry(right.0[0]).or_insert(0) += 1;
+        }
+    }
+
+    /// A tree written with every room from none to more than it needs.
+    fn rooms(&mut self, case: &Case, made: u64) {
+        let Case::Write { d, tiles, fanout, leaves, .. } = case else { return };
+        let Ok(length) = rules::tree_length(d, *tiles, *fanout) else { return };
+        for room in 0..length.min(3_000) + 9 {
+            let (d, tiles, fanout, leaves) = (d.clone(), *tiles, *fanout, leaves.clone());
+            self.compare(&Case::Write { d, tiles, fanout, leaves, room }, made);
         }
     }
 
@@ -128,9 +140,12 @@ fn main() {
         if i % 5_000 == 0 || inputs == 1 {
             tally.damaged(&case, i);
         }
+        if i % 2_000 < 20 {
+            tally.rooms(&case, i);
+        }
     }
     if first == 0 && inputs >= 100_000 {
-        for number in (0..=rules::refusal::SUM).chain([rules::refusal::RUNS, rules::refusal::INFINITE]) {
+        for number in (0..=rules::refusal::SUM).chain([rules::refusal::RUNS, rules::refusal::INFINITE, rules::refusal::ROOM]) {
             assert!(tally.refusals.contains_key(&number), "no input was refused with {number}");
         }
         assert!(tally.guarded >= 5_000);

@@ -121,6 +121,17 @@ impl Grown {
         same(self.open(limits::TILES.end() + 1), vec![refusal::TILES, 4 + 8 + 1 + 2 + 8, 0, 0, 0, 0], "a tile too many");
     }
 
+    /// The tree that is written of its leaves is this one.
+    fn writing(&mut self) {
+        let (d, tiles, fanout, room) = (self.d.clone(), self.n, self.fanout, self.body.len() + 3);
+        let leaves = self.body[self.body.len() - 8 * self.n as usize..].to_vec();
+        let case = Case::Write { d, tiles, fanout, leaves, room };
+        let length = self.body.len() as u64;
+        let (said, out) = library::ask(&case, None);
+        same(said, vec![0, 0, length, 0, 0, length], "writing");
+        assert!(out.into_iter().eq(self.body.iter().map(|x| u32::from(*x)).chain([0xa5; 3])), "what is written");
+    }
+
     fn window(&mut self, window: Ends) {
         let meets = |ends: &Ends| ends.0 <= window.1 && window.0 <= ends.1;
         let leaves = self.levels.last().unwrap();
@@ -176,6 +187,7 @@ pub fn compare(n: u64) {
     for fanout in [*limits::FANOUT.start(), *limits::FANOUT.end()] {
         let mut tree = grown(n, fanout);
         tree.opening();
+        tree.writing();
         tree.queries();
     }
     lists(n);

@@ -75,6 +75,23 @@ pub fn right(case: &Case) -> (Vec<u64>, Vec<u32>) {
             answer.extend([offset, extent]);
             (answer, vec![])
         }
+        Case::Write { d, tiles, fanout, leaves, room } => {
+            let mut out = vec![0xa5u32; *room];
+            let mut answer = match rules::write_tree(d, *tiles, *fanout, leaves, *room) {
+                Ok(body) => {
+                    for (place, byte) in out.iter_mut().zip(&body) {
+                        *place = u32::from(*byte);
+                    }
+                    vec![0, 0, body.len() as u64]
+                }
+                Err(r) => refused(&r, 1),
+            };
+            match rules::tree_length(d, *tiles, *fanout) {
+                Ok(length) => answer.extend([0, 0, length as u64]),
+                Err(r) => answer.extend(refused(&r, 1)),
+            }
+            (answer, out)
+        }
         Case::Report { description, footer, tree, offsets, room } => {
             let text = rules::report(description, footer, tree, offsets);
             let mut out = vec![0xa5u32; *room];

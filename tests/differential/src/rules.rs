@@ -59,6 +59,7 @@ pub mod refusal {
     pub const WORK: u64 = 21;
     pub const RUNS: u64 = 22;
     pub const INFINITE: u64 = 23;
+    pub const ROOM: u64 = 26;
 }
 
 #[derive(Clone, Copy, Debug, PartialEq)]
@@ -522,6 +523,68 @@ pub fn flat(d: &Description, s: &Shape, body: &[u8], window: &[Range]) -> (Vec<u
         }
     }
     (listing, count)
+}
+
+/// The bytes of a tree of so many tiles, by the counts of its levels.
+pub fn tree_length(d: &Description, n: u64, f: u64) -> Answer<usize> {
+    d.check()?;
+    if !limits::TILES.contains(&n) {
+        return refuse(refusal::TILES, 0);
+    }
+    if !limits::FANOUT.contains(&f) {
+        return refuse(refusal::FANOUT, 0);
+    }
+    let (mut count, mut boxes, mut levels) = (n, n, 1);
+    while count > 1 {
+        count = count.div_ceil(f);
+        boxes += count;
+        levels += 1;
+    }
+    Ok(8 + 8 * levels + d.box_bytes() * boxes as usize)
+}
+
+/// The whole body of a tree with these leaves, for an output buffer of so many bytes.
+pub fn write_tree(d: &Description, n: u64, f: u64, leaves: &[u8], room: usize) -> Answer<Vec<u8>> {
+    let length = tree_length(d, n, f)?;
+    let b = d.box_bytes();
+    if leaves.len() as u64 != n * b as u64 {
+        return refuse(refusal::BYTES, leaves.len());
+    }
+    for k in 0..n as usize {
+        check_ranges(&d.kinds, leaves, k * b)?;
+    }
+    if room < length {
+        return refuse(refusal::ROOM, 0);
+    }
+    let mut levels: Vec<Vec<Vec<u8>>> = vec![leaves.chunks(b).map(|leaf| leaf.to_vec()).collect()];
+    while levels[0].len() > 1 {
+        let above = levels[0].chunks(f as usize).map(|row| around(&d.kinds, row)).collect();
+        levels.insert(0, above);
+    }
+    let mut body = [(f as u32).to_le_bytes(), (levels.len() as u32).to_le_bytes()].concat();
+    for level in levels {
+        body.extend((level.len() as u64).to_le_bytes());
+        body.extend(level.concat());
+    }
+    assert_eq!(body.len(), length);
+    Ok(body)
+}
+
+/// The least box around a row: each end has the bytes of the first box that no other surpasses.
+fn around(kinds: &[u8], row: &[Vec<u8>]) -> Vec<u8> {
+    let (mut made, mut at) = (vec![], 0);
+    for kind in kinds {
+        let half = width(*kind) / 2;
+        for (from, lower) in [(at, true), (at + half, false)] {
+            let end = |data: &[u8]| End::read(*kind, data, from);
+            let best = |one: &&Vec<u8>| {
+                row.iter().all(|other| if lower { end(one).at_most(end(other)) } else { end(other).at_most(end(one)) })
+            };
+            made.extend(&row.iter().find(best).expect("ends without NaN have a lowest and a highest")[from..from + half]);
+        }
+        at += 2 * half;
+    }
+    made
 }
 
 fn entries(n: u64, data: &[u8]) -> Answer<Vec<u64>> {

@@ -1,0 +1,64 @@
+-- Lying inside is an order of the ranges that hold no NaN, at every kind at once.
+-- Assumes nothing.
+use mathlib.Core.Path.{_≡_}
+use mathlib.Core.Bool.{true, false}
+use Prim.Native.Nat.{ℕ, _≤_}
+use Rattle.description.specs.Kinds.{sameKind, key, atMost, isNan, isInfinite, ordered}
+use Rattle.description.proofs.Datatypes.{same-kind, one-kind}
+use Rattle.description.proofs.Tests.{both, neither}
+use Rattle.description.proofs.Patterns.{at-most-says, at-most-when}
+use Rattle.answers.specs.Refusals.{none}
+use Rattle.description.specs.declared.Kind.{Kind}
+use Rattle.ranges.specs.declared.Range.{Range}
+use Rattle.ranges.specs.Ranges.{Ends, ends, hasNan, verdict, storedRefusal, inside}
+use Rattle.ranges.proofs.Judging.{stored-clear, stored-sound}
+
+module _ (e o : Ends) where
+  pub inside-says : inside e o ≡ true
+      → (e .kind ≡ o .kind) × ((atMost (ordered (e .kind)) (o .low) (e .low) ≡ true) × (atMost (ordered (e .kind)) (e .high) (o .high) ≡ true))
+  unfolding inside
+  inside-says h =
+      let s = both (sameKind (e .kind) (o .kind)) _ h in
+      (one-kind (e .kind) (o .kind) (s .0), both (atMost (ordered (e .kind)) (o .low) (e .low)) (atMost (ordered (e .kind)) (e .high) (o .high)) (s .1))
+
+  pub inside-when : e .kind ≡ o .kind → atMost (ordered (e .kind)) (o .low) (e .low) ≡ true → atMost (ordered (e .kind)) (e .high) (o .high) ≡ true
+      → inside e o ≡ true
+  unfolding inside
+  inside-when k l h = rw (l, h, ← k, same-kind (e .kind))
+
+-- no NaN, by the ends
+pub numbers : (e : Ends) → hasNan e ≡ false → (isNan (e .kind) (e .low) ≡ false) × (isNan (e .kind) (e .high) ≡ false)
+unfolding hasNan
+numbers e h = neither (isNan (e .kind) (e .low)) (isNan (e .kind) (e .high)) h
+
+-- what lies inside another has no NaN
+pub inside-numbers : (e o : Ends) → inside e o ≡ true → hasNan e ≡ false
+unfolding hasNan
+inside-numbers e o h =
+    let s = inside-says e o h in
+    rw (at-most-says (ordered (e .kind)) (o .low) (e .low) (s .1 .0) .1, at-most-says (ordered (e .kind)) (e .high) (o .high) (s .1 .1) .0)
+
+-- what a stored range that isn't refused has
+module _ (k : Kind) (a b : ℕ) (r : Range) (place : ℕ) (clear : storedRefusal (verdict (ends k a b) r) place .number ≡ 0) where
+  stored-ends : (isNan k a ≡ false) × (isNan k b ≡ false) × (key k a ≤ key k b)
+  stored-ends = at-most-says (ordered k) a b (stored-clear k a b r place clear .0)
+
+  stored-infinite : (isInfinite k a ≡ false) × (isInfinite k b ≡ false)
+  stored-infinite = neither (isInfinite k a) (isInfinite k b) (stored-clear k a b r place clear .1)
+
+  pub stored-numbers : hasNan (ends k a b) ≡ false
+  unfolding hasNan
+  stored-numbers = rw (stored-ends .0, stored-ends .1)
+
+  pub stored-order : key k a ≤ key k b
+  stored-order = stored-ends .2
+
+-- a range that has its minimum from one such and its maximum from another, in order, is another such
+module _ (k : Kind) (a b : ℕ) (r : Range) (at : ℕ) (first : storedRefusal (verdict (ends k a b) r) at .number ≡ 0)
+    (c d : ℕ) (s : Range) (to : ℕ) (second : storedRefusal (verdict (ends k c d) s) to .number ≡ 0) where
+  pub stored-mixed : key k a ≤ key k d → (t : Range) (place : ℕ) → storedRefusal (verdict (ends k a d) t) place ≡ none
+  stored-mixed l t place =
+      stored-sound k a d t place
+      (at-most-when (ordered k) a d (stored-ends k a b r at first .0) (stored-ends k c d s to second .1) l)
+      (stored-infinite k a b r at first .0)
+      (stored-infinite k c d s to second .1)

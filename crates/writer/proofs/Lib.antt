@@ -1,0 +1,8 @@
+-- The laws that belong to no one function.
+pub mod Stores
+pub mod Choosing
+pub mod Sides
+pub mod Rows
+pub mod Levels
+pub mod Checked
+pub mod Sound

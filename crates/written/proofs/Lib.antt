@@ -1,0 +1,6 @@
+-- The laws of the written body.
+pub mod Examples
+pub mod Boxes
+pub mod Body
+pub mod Opened
+pub mod Tree

@@ -1,0 +1,3 @@
+-- The definitions that this crate's laws, and every crate above, cite.
+pub mod Body
+pub mod Writing
