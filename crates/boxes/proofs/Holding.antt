@@ -5,7 +5,8 @@ use mathlib.Core.Bool.{Bool, true, false}
 use mathlib.Core.List.{List}
 use Prim.Native.Nat.{ℕ, _<_}
 use native.Mathlib.Omega.{arith}
-use Rattle.answers.proofs.Checks.{each-clear}
+use Rattle.answers.specs.Refusals.{none}
+use Rattle.answers.proofs.Checks.{each-clear, all-clear}
 use Rattle.description.specs.declared.Dimension.{Dimension}
 use Rattle.description.specs.Description.{kindAt}
 use Rattle.ranges.specs.Ranges.{endsAt, hasNan}
@@ -14,7 +15,7 @@ use Rattle.boxes.specs.Boxes.{sideAt, rangesRefusal, boxInside, boxMeets
 use Rattle.boxes.proofs.Boxes.{all-says, all-when, box-meets-around}
 use Rattle.boxes.proofs.Walking.{toldAt}
 use Rattle.ranges.proofs.Comparing.{inside-refl, inside-trans}
-use Rattle.ranges.proofs.Containing.{inside-numbers, stored-numbers}
+use Rattle.ranges.proofs.Containing.{inside-numbers, stored-numbers, stored-same}
 
 module _ (kinds : List Dimension) (m : ℕ) where
   -- no range of m dimensions has a NaN
@@ -57,3 +58,12 @@ module _ (kinds : List Dimension) (m : ℕ) where
       go true e false f = sym (box-meets-around kinds m b o w p e) ∙ f
       go false e true f = sym e ∙ box-meets-around kinds m o b w q f
       go false e false f = refl
+
+  -- and one is sound where the other is
+  pub same-sound : (b o : List ℕ) (at to : ℕ) → rangesRefusal kinds m o at .number ≡ 0 → boxInside kinds m b o ≡ true → boxInside kinds m o b ≡ true
+      → rangesRefusal kinds m b to ≡ none
+  unfolding rangesRefusal boxInside endsAt
+  same-sound b o at to clear p q =
+      all-clear (toldAt kinds b to) 0 m (λ i a l.
+      stored-same (kindAt kinds i) (sideAt kinds o i .low) (sideAt kinds o i .high) _ _ (each-clear (toldAt kinds o at) 0 m clear i a l)
+      (sideAt kinds b i .low) (sideAt kinds b i .high) (all-says _ 0 m p i a l) (all-says _ 0 m q i a l) _ _)

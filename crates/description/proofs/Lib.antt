@@ -3,5 +3,6 @@ pub mod Tests
 pub mod Limits
 pub mod Sides
 pub mod Patterns
+pub mod Keys
 pub mod Datatypes
 pub mod Rules

@@ -1,8 +1,10 @@
 -- Lying inside is an order of the ranges that hold no NaN, at every kind at once.
 -- Assumes nothing.
-use mathlib.Core.Path.{_≡_}
+use mathlib.Core.Path.{_≡_, _∙_}
 use mathlib.Core.Bool.{true, false}
 use Prim.Native.Nat.{ℕ, _≤_}
+use native.Mathlib.Omega.{arith}
+use Rattle.description.proofs.Keys.{infinite-by-key}
 use Rattle.description.specs.Kinds.{sameKind, key, atMost, isNan, isInfinite, ordered}
 use Rattle.description.proofs.Datatypes.{same-kind, one-kind}
 use Rattle.description.proofs.Tests.{both, neither}
@@ -62,3 +64,20 @@ module _ (k : Kind) (a b : ℕ) (r : Range) (at : ℕ) (first : storedRefusal (v
       (at-most-when (ordered k) a d (stored-ends k a b r at first .0) (stored-ends k c d s to second .1) l)
       (stored-infinite k a b r at first .0)
       (stored-infinite k c d s to second .1)
+
+-- a range that is equal to such a one, each inside the other, is such a one too
+module _ (k : Kind) (a b : ℕ) (r : Range) (place : ℕ) (clear : storedRefusal (verdict (ends k a b) r) place .number ≡ 0) where
+  pub stored-same : (c d : ℕ) → inside (ends k c d) (ends k a b) ≡ true → inside (ends k a b) (ends k c d) ≡ true
+      → (t : Range) (to : ℕ) → storedRefusal (verdict (ends k c d) t) to ≡ none
+  stored-same c d p q t to =
+      let s = inside-says (ends k c d) (ends k a b) p .1 in
+      let u = inside-says (ends k a b) (ends k c d) q .1 in
+      let low = at-most-says (ordered k) a c (s .0) in
+      let high = at-most-says (ordered k) d b (s .1) in
+      let lower = at-most-says (ordered k) c a (u .0) in
+      let higher = at-most-says (ordered k) b d (u .1) in
+      let own = stored-infinite k a b r place clear in
+      stored-sound k c d t to
+      (at-most-when (ordered k) c d (low .1) (high .0) (omega (arith, lower .2, stored-order k a b r place clear, higher .2)))
+      (infinite-by-key k c a (omega (arith, low .2, lower .2)) ∙ own .0)
+      (infinite-by-key k d b (omega (arith, high .2, higher .2)) ∙ own .1)

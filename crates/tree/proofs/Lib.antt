@@ -10,4 +10,5 @@ pub mod Rise
 pub mod Run
 pub mod Steps
 pub mod Demand3
+pub mod Fewer
 pub mod Examples

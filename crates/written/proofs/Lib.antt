@@ -4,3 +4,5 @@ pub mod Boxes
 pub mod Body
 pub mod Opened
 pub mod Tree
+pub mod SameLeaves
+pub mod Fewest

@@ -1,3 +1,4 @@
 -- The definitions that this crate's laws, and every crate above, cite.
 pub mod Body
 pub mod Writing
+pub mod SameLeaves
