@@ -173,11 +173,11 @@ impl Kind {
         }
     }
 
-    /// The fault of a stored range, and whether it lies inside another.
-    fn judge(self, inner: &[u8], outer: &[u8]) -> (Option<u64>, bool) {
-        fn one<T: Number>(inner: &[u8], outer: &[u8]) -> (Option<u64>, bool) {
-            let range = T::ends(inner);
-            (range.stored_fault(), range.inside(&T::ends(outer)))
+    /// Whether a stored range is in order and lies inside another, which has no fault: then it has none either.
+    fn lies(self, inner: &[u8], outer: &[u8]) -> bool {
+        fn one<T: Number>(inner: &[u8], outer: &[u8]) -> bool {
+            let (range, outer) = (T::ends(inner), T::ends(outer));
+            outer.0 <= range.0 && range.0 <= range.1 && range.1 <= outer.1
         }
         match self {
             Kind::Int32 => one::<i32>(inner, outer),
@@ -518,19 +518,30 @@ pub fn open(kinds: &[u8], fields: u64, capacity: u64, file_size: u64, footer_byt
     boxes(&d, tiles as usize, &footer_bytes[domain..], tree).map_err(|refused| Refused { which: 1, ..refused })
 }
 
-/// Every range of a stored box is sound, and the box lies inside another one, or the number for that is given.
+/// Every range of a stored box is sound, and the box lies inside another one that is, or the number for that is given.
 fn check_box(kinds: &[Kind], bytes: &[u8], at: usize, outer: &[u8], number: u64) -> Result<(), Refused> {
-    let mut all_inside = true;
     let mut place = 0;
     for kind in kinds {
-        let (fault, inside) = kind.judge(&bytes[place..], &outer[place..]);
-        if let Some(number) = fault {
-            return refuse(number, at + place);
+        if !kind.lies(&bytes[place..], &outer[place..]) {
+            return box_fault(kinds, bytes, at, number);
         }
-        all_inside &= inside;
         place += kind.range_bytes();
     }
-    if all_inside { Ok(()) } else { refuse(number, at) }
+    Ok(())
+}
+
+/// The fault of a box that has one, apart from the loop over boxes.
+#[cold]
+#[inline(never)]
+fn box_fault(kinds: &[Kind], bytes: &[u8], at: usize, number: u64) -> Result<(), Refused> {
+    let mut place = 0;
+    for kind in kinds {
+        if let Some(number) = Range::read(*kind, &bytes[place..]).stored_fault() {
+            return refuse(number, at + place);
+        }
+        place += kind.range_bytes();
+    }
+    refuse(number, at)
 }
 
 fn boxes(d: &Description, tiles: usize, domain: &[u8], body: &[u8]) -> Result<(u64, u64, u64), Refused> {

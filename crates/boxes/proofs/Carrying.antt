@@ -10,13 +10,9 @@ use lib.ListN.{getD, set}
 use borrow.Author.Tests.{lt-ltb}
 use Rattle.answers.specs.Runs.{over}
 use Rattle.description.specs.declared.Kind.{Kind}
-use Rattle.description.specs.declared.Dimension.{Dimension}
 use Rattle.description.specs.Kinds.{endBytes}
-use Rattle.description.specs.Description.{kindAt, sideStart}
-use Rattle.ranges.specs.Ranges.{Ends, endsAt, fitted}
-use Rattle.ranges.proofs.Reading.{fitted-same, ends-at-fit}
-use Rattle.boxes.specs.Boxes.{sideAt}
-use Rattle.boxes.specs.Code.Carried.{carriedSide, carried, endsIn, Fitting}
+use Rattle.ranges.specs.Ranges.{Ends, fitted}
+use Rattle.boxes.specs.Code.Carried.{carried, Fitting}
 
 -- filled side by side
 module _ (side : ℕ → Ends) where
@@ -51,19 +47,6 @@ module _ (side : ℕ → Ends) where
 -- a carried end fits its kind
 pub fitted-lt : (k : Kind) (p : ℕ) → fitted k p < 256 ^ endBytes k
 fitted-lt k p = mod-lt p (one-le-pow (endBytes k) 256 (omega arith))
-
--- of a box in its bytes
-pub carried-again : (kinds : List Dimension) (m : ℕ) (bytes : List ℕ) → ((i : ℕ) → getD bytes i 0 < 256) → (i : ℕ) → i < m → m ≤ 4
-    → carriedSide (kindAt kinds i) (endsIn kinds m bytes) i ≡ sideAt kinds bytes i
-unfolding endsAt
-carried-again kinds m bytes byte i h l =
-    let k = kindAt kinds i in
-    rw (
-      carried-low (sideAt kinds bytes) i m h (omega arith),
-      carried-high (sideAt kinds bytes) i m h (omega arith),
-      fitted-same k _ (ends-at-fit bytes byte k (sideStart kinds i) .0),
-      fitted-same k _ (ends-at-fit bytes byte k (sideStart kinds i) .1),
-    )
 
 -- a window's ends, as a loop carries them side by side: what its sides have fits, and so does what is carried
 module _ (side : ℕ → Ends) (kind : ℕ → Kind) where

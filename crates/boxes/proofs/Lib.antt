@@ -5,6 +5,7 @@ pub mod Boxes
 pub mod Holding
 pub mod Least
 pub mod Moving
+pub mod Held
 pub mod Within
 pub mod Windows
 pub mod ReadTo

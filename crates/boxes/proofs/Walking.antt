@@ -1,10 +1,9 @@
--- What the loops over a box's dimensions share: at dimension i the place is where that dimension starts, so the range that is read there, what
--- is told of it and how it lies to another are those of the box's bytes, and the next place is where the next dimension starts.
+-- What the loops over a box's dimensions share: at dimension i the place is where that dimension starts, so the range that is read there and what
+-- is told of it are those of the box's bytes, and the next place is where the next dimension starts.
 -- Assumes nothing.
 use mathlib.Core.Path.{_≡_, refl, sym, _∙_}
-use mathlib.Core.Bool.{Bool, _&&_}
 use mathlib.Core.List.{List}
-use Prim.Native.Nat.{ℕ, zero, suc, _+_, _*_, _≤_, _<_}
+use Prim.Native.Nat.{ℕ, zero, suc, _+_, _≤_, _<_}
 use native.Mathlib.Nat.{zero-add}
 use native.Mathlib.Omega.{arith}
 use lib.ListN.{getD, set}
@@ -17,13 +16,10 @@ use Rattle.ranges.specs.declared.Verdict.{Verdict}
 use Rattle.description.specs.declared.Dimension.{Dimension}
 use Rattle.description.specs.Kinds.{rangeBytes}
 use Rattle.description.specs.Description.{kindAt, sideStart}
-use Rattle.ranges.specs.Ranges.{endsOf, fitted, rangeOf, rangeAt, verdict, verdictAt, storedRefusal, inside}
+use Rattle.ranges.specs.Ranges.{endsOf, rangeAt, verdict, verdictAt, storedRefusal}
 use Rattle.boxes.specs.Boxes.{noBox, boxOf}
-use Rattle.boxes.specs.Code.Carried.{carriedSide}
-use Rattle.boxes.specs.Code.Row.{isSound, soundInside}
 use Rattle.description.proofs.Sides.{start-next, start-most}
-use Rattle.ranges.proofs.Reading.{read-verdict, read-inside-left, of-inside-right}
-use Rattle.boxes.proofs.Carrying.{fitted-lt}
+use Rattle.ranges.proofs.Reading.{read-verdict}
 
 -- what is told of dimension i, in a box that starts at `start`
 abbrev pub toldAt : List Dimension → List ℕ → ℕ → ℕ → Refusal
@@ -42,22 +38,6 @@ module _ (kinds : List Dimension) (i at : ℕ) (here : at ≡ sideStart kinds i)
   module _ (bytes : List ℕ) (byte : (j : ℕ) → getD bytes j 0 < 256) (r : Range) (read : r ≡ rangeAt (kindAt kinds i) bytes at) where
     pub told-here : (j : Verdict) (told : Refusal) → j ≡ verdict (endsOf r) r → told ≡ storedRefusal j at → told ≡ toldAt kinds bytes 0 i
     told-here j told p q = q ∙ rw (p, read, read-verdict bytes byte (kindAt kinds i) at, zero-add, here)
-
-    -- and of a range held against one that is carried
-    pub sound-here : (o : Range) (ends : List ℕ)
-        → o ≡ rangeOf (kindAt kinds i) (carriedSide (kindAt kinds i) ends i .low) (carriedSide (kindAt kinds i) ends i .high)
-        → {t : Bool} → t ≡ (isSound (verdict (endsOf r) r) && inside (endsOf r) (endsOf o)) → t ≡ soundInside kinds bytes ends i
-    sound-here o ends e p =
-        let k = kindAt kinds i in
-        p
-        ∙ rw (
-          e,
-          of-inside-right k (fitted k (getD ends (2 * i) 0)) (fitted k (getD ends (2 * i + 1) 0)) (fitted-lt k _) (fitted-lt k _) (endsOf r),
-          read,
-          read-verdict bytes byte k at,
-          read-inside-left bytes byte k at,
-          here,
-        )
 
 -- a box is filled place by place
 module _ (kinds : List Dimension) (bytes : List ℕ) where

@@ -10,7 +10,7 @@ use native.Mathlib.Nat.{le-div-iff-mul-le, div-lt-iff-lt-mul, div-zero, suc-mul}
 use native.Mathlib.Decide.{decLt}
 use native.Mathlib.Numerals.{add-one}
 use native.Mathlib.Omega.{arith}
-use lib.ListN.{length, getD, take, drop}
+use lib.ListN.{length, take, drop}
 use Rattle.answers.specs.Refusals.{none, refusal}
 use Rattle.answers.specs.Checks.{otherwise, each}
 use Rattle.answers.specs.declared.Refusal.{Refusal}
@@ -23,11 +23,9 @@ use Rattle.ranges.specs.declared.Verdict.{Verdict}
 use Rattle.ranges.specs.declared.Verdict.the-variants.{Sound, Infinite, InfiniteReversed, NotANumber, Reversed}
 use Rattle.ranges.specs.Ranges.{verdictAt, storedRefusal, inside}
 use Rattle.boxes.specs.Boxes.{all, sideAt, rangesRefusal, boxInside, boxRefusal}
-use Rattle.boxes.specs.Code.Carried.{endsIn}
 use Rattle.boxes.specs.Code.Row.{isSound, soundInside, rowBox, rowRefusal}
 use Rattle.boxes.proofs.Walking.{toldAt}
 use Rattle.boxes.proofs.Boxes.{all-says, all-when}
-use Rattle.boxes.proofs.Carrying.{carried-again}
 
 -- a verdict says nothing where it is sound, and only there
 pub sound-none : (v : Verdict) (place : ℕ) → isSound v ≡ true → storedRefusal v place ≡ none
@@ -44,28 +42,21 @@ none-sound InfiniteReversed place h = absurd (omega arith)
 none-sound NotANumber place h = absurd (omega arith)
 none-sound Reversed place h = absurd (omega arith)
 
-module _ (kinds : List Dimension) (m : ℕ) (bytes outer : List ℕ) (byte : (i : ℕ) → getD outer i 0 < 256) (few : m ≤ 4) (number start : ℕ) where
-  abbrev ends : List ℕ
-  ends = endsIn kinds m outer
-
+module _ (kinds : List Dimension) (m : ℕ) (bytes outer : List ℕ) (number start : ℕ) where
   abbrev judged : ℕ → Verdict
   judged i = verdictAt (kindAt kinds i) bytes (sideStart kinds i)
 
-  -- what is carried of the other box says what its bytes say
-  parts : (i : ℕ) → i < m → soundInside kinds bytes ends i ≡ (isSound (judged i) && inside (sideAt kinds bytes i) (sideAt kinds outer i))
-  parts i l = rw (carried-again kinds m outer byte i l few)
-
-  pub within-clear : all (soundInside kinds bytes ends) 0 m ≡ true → boxRefusal kinds m bytes outer number start ≡ none
+  pub within-clear : all (soundInside kinds bytes outer) 0 m ≡ true → boxRefusal kinds m bytes outer number start ≡ none
   unfolding boxRefusal rangesRefusal boxInside
   within-clear h =
       let each-part : Each (λ i. (isSound (judged i) ≡ true) × (inside (sideAt kinds bytes i) (sideAt kinds outer i) ≡ true)) 0 m =
-      λ i a l. both (isSound (judged i)) _ (sym (parts i (omega arith)) ∙ all-says _ 0 m h i a l) in
+      λ i a l. both (isSound (judged i)) _ (all-says _ 0 m h i a l) in
       let ranges : each (toldAt kinds bytes start) 0 m ≡ none =
       all-clear (toldAt kinds bytes start) 0 m (λ i a l. sound-none (judged i) (start + sideStart kinds i) (each-part i a l .0)) in
       let lies : all (λ i. inside (sideAt kinds bytes i) (sideAt kinds outer i)) 0 m ≡ true = all-when _ 0 m (λ i a l. each-part i a l .1) in
       rw (ranges, lies)
 
-  pub within-fault : all (soundInside kinds bytes ends) 0 m ≡ false
+  pub within-fault : all (soundInside kinds bytes outer) 0 m ≡ false
       → boxRefusal kinds m bytes outer number start ≡ otherwise (rangesRefusal kinds m bytes start) (refusal number start)
   unfolding boxRefusal rangesRefusal boxInside
   within-fault h = go (decLt 0 (rangesRefusal kinds m bytes start .number))
@@ -74,10 +65,9 @@ module _ (kinds : List Dimension) (m : ℕ) (bytes outer : List ℕ) (byte : (i 
       apart clear true e =
           absurd (
           true≢false
-          (sym (all-when (soundInside kinds bytes ends) 0 m
+          (sym (all-when (soundInside kinds bytes outer) 0 m
           (λ i a l.
-          parts i (omega arith)
-          ∙ rw (none-sound (judged i) _ (each-clear (toldAt kinds bytes start) 0 m clear i a l), all-says _ 0 m e i a l)))
+          rw (none-sound (judged i) _ (each-clear (toldAt kinds bytes start) 0 m clear i a l), all-says _ 0 m e i a l)))
           ∙ h)
           )
       apart clear false e = e

@@ -28,8 +28,8 @@ use Rattle.description.specs.Kinds.{rangeBytes, endBytes, isNan, ordered}
 use Rattle.description.proofs.Datatypes.{when-same}
 use Rattle.description.proofs.Patterns.{Alike, alike-nan, alike-infinite, alike-left, alike-right}
 use Rattle.ranges.specs.declared.Range.{Range}
-use Rattle.ranges.specs.Ranges.{Ends, ends, kindOf, endsAt, endsOf, fitted, rangeOf, rangeAt, verdict, inside, meets}
-use Rattle.ranges.proofs.Judging.{verdict-on-is}
+use Rattle.ranges.specs.Ranges.{Ends, ends, kindOf, endsAt, endsOf, fitted, rangeOf, rangeAt, hasNan, hasInfinity, isFinite, verdict, inside, meets}
+use Rattle.ranges.proofs.Judging.{when-known, verdict-on-is}
 use Rattle.ranges.proofs.Comparing.{within, touching, ends-kind}
 
 -- ---- as the code makes a range: of signed values that were passed on
@@ -108,6 +108,12 @@ module _ (k : Kind) (a b : ℕ) (a-fits : a < 256 ^ endBytes k) (b-fits : b < 25
       as-made (λ e. verdict e r)
       (rw (verdict-on-is k (again k a) (again k b) r, verdict-on-is k a b r, alike-left (ordered k) (again k a) a (again k b) low, alike-right (ordered k) (again k b) b a high, alike-nan (ordered k) (again k a) a low, alike-nan (ordered k) (again k b) b high, alike-infinite k (again k a) a low, alike-infinite k (again k b) b high))
 
+  pub of-finite : isFinite (endsOf (rangeOf k a b)) ≡ isFinite (ends k a b)
+  unfolding hasNan hasInfinity
+  of-finite =
+      as-made isFinite
+      (rw (alike-nan (ordered k) (again k a) a low, alike-nan (ordered k) (again k b) b high, alike-infinite k (again k a) a low, alike-infinite k (again k b) b high))
+
   pub of-inside-left : (o : Ends) → inside (endsOf (rangeOf k a b)) o ≡ inside (ends k a b) o
   unfolding inside
   of-inside-left o =
@@ -143,9 +149,17 @@ module _ (s : List ℕ) (byte : (i : ℕ) → getD s i 0 < 256) (k : Kind) (at :
   unfolding endsAt
   read-verdict = of-verdict k (endsAt k s at .low) (endsAt k s at .high) (ends-at-fit .0) (ends-at-fit .1)
 
+  pub read-finite : isFinite (endsOf (rangeAt k s at)) ≡ isFinite (endsAt k s at)
+  unfolding endsAt
+  read-finite = of-finite k (endsAt k s at .low) (endsAt k s at .high) (ends-at-fit .0) (ends-at-fit .1)
+
   pub read-inside-left : (o : Ends) → inside (endsOf (rangeAt k s at)) o ≡ inside (endsAt k s at) o
   unfolding endsAt
   read-inside-left = of-inside-left k (endsAt k s at .low) (endsAt k s at .high) (ends-at-fit .0) (ends-at-fit .1)
+
+  pub read-inside-right : (e : Ends) → inside e (endsOf (rangeAt k s at)) ≡ inside e (endsAt k s at)
+  unfolding endsAt
+  read-inside-right = of-inside-right k (endsAt k s at .low) (endsAt k s at .high) (ends-at-fit .0) (ends-at-fit .1)
 
   pub read-meets-left : (q : Ends) → meets (endsOf (rangeAt k s at)) q ≡ meets (endsAt k s at) q
   unfolding endsAt
@@ -160,7 +174,7 @@ two-ends Float64 = refl
 two-ends Uint64 = refl
 
 module _ (k : Kind) (s : List ℕ) (at w : ℕ) (size : w ≡ rangeBytes k) (fits : at + w ≤ length s) where
-  part-ends : endsAt k (take w (drop at s)) 0 ≡ endsAt k s at
+  pub part-ends : endsAt k (take w (drop at s)) 0 ≡ endsAt k s at
   unfolding endsAt
   part-ends =
       let m = endBytes k in
@@ -174,3 +188,11 @@ module _ (k : Kind) (s : List ℕ) (at w : ℕ) (size : w ≡ rangeBytes k) (fit
 
   pub part-range : rangeAt k (take w (drop at s)) 0 ≡ rangeAt k s at
   part-range = rw part-ends
+
+-- its kind is known where it is read
+module _ (known : Kind) {k : Kind} (s : List ℕ) (at : ℕ) (same : k ≡ known) (there : at + rangeBytes k ≤ length s) where
+  pub known-fits : at + rangeBytes known ≤ length s
+  known-fits = rw same at there
+
+  pub known-part : {r : Range} (w : ℕ) → w ≡ rangeBytes known → r ≡ rangeAt known (take w (drop at s)) 0 → r ≡ rangeAt k s at
+  known-part w size read = when-known (λ x. rangeAt x s at) same (read ∙ part-range known s at w size (omega (arith, known-fits)))

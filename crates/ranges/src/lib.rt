@@ -151,6 +151,19 @@ impl Range {
         }
     }
 
+    // The minimum is at most the maximum, which no NaN is.
+    pub fn in_order(self) -> bool
+        ensures { λ r. ⌜ r ≡ atMost (ordered (kindOf self)) (endsOf self .low) (endsOf self .high) ⌝ }
+    {
+        match self {
+            Range::I32(low, high) => order::i32_at_most(low, high),
+            Range::I64(low, high) => order::i64_at_most(low, high),
+            Range::F32(low, high) => order::f32_at_most(low, high),
+            Range::F64(low, high) => order::f64_at_most(low, high),
+            Range::U64(low, high) => order::u64_at_most(low, high),
+        }
+    }
+
     // Inside or equal. Of another kind it is not.
     pub fn inside(self, outer: Range) -> bool
         ensures { λ r. ⌜ r ≡ inside (endsOf self) (endsOf outer) ⌝ }
