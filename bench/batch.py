@@ -17,7 +17,9 @@ import rules
 import tussockbell as tb
 
 KINDS = ["float64", "float64"]
-SIDE, FANOUT, WINDOWS, ROUNDS, TIMES = 64, 16, 32, 31, 20
+SIDE, FANOUT, WINDOWS, ROUNDS = 64, 16, 32, 101
+# A round takes so many nanoseconds at least.
+LEAST = 600_000
 
 
 def opened():
@@ -29,15 +31,21 @@ def opened():
     return tb.open_tree(tb.Description(KINDS, 1, 1000), footer.file_size, footer.data(), tree)
 
 
-def median(ask):
-    """Nanoseconds of a call: the median of rounds."""
-    taken = []
-    for _ in range(ROUNDS):
-        start = time.perf_counter_ns()
-        for _ in range(TIMES):
-            ask()
-        taken.append((time.perf_counter_ns() - start) / TIMES)
-    return sorted(taken)[ROUNDS // 2]
+def timed(ask, times):
+    """Nanoseconds of a call."""
+    start = time.perf_counter_ns()
+    for _ in range(times):
+        ask()
+    return (time.perf_counter_ns() - start) / times
+
+
+def medians(asked):
+    """Nanoseconds of a call of each: medians of rounds as long as each other, every other one of which goes backward."""
+    runs = [(ask, max(1, round(LEAST / min(timed(ask, 1) for _ in range(9)))), []) for ask in asked]
+    for turn in range(ROUNDS):
+        for ask, times, taken in runs[:: -1 if turn % 2 else 1]:
+            taken.append(timed(ask, times))
+    return [sorted(taken)[ROUNDS // 2] for _, _, taken in runs]
 
 
 def main():
@@ -50,7 +58,7 @@ def main():
         single = [tree.query(window) for window in windows]
         assert tree.query_batch(windows) == single == tree.query_batch(buffer)
         asked = (lambda: [tree.query(window) for window in windows], lambda: tree.query_batch(windows), lambda: tree.query_batch(buffer))
-        taken = "\t".join(f"{median(ask) / WINDOWS:.1f}" for ask in asked)
+        taken = "\t".join(f"{each / WINDOWS:.1f}" for each in medians(asked))
         means = [sum(getattr(hit, what) for hit in single) / WINDOWS for what in ("found", "looked")]
         print(f"python\t{name}\t{means[0]:.1f}\t{means[1]:.1f}\t{taken}")
 

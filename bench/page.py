@@ -272,7 +272,7 @@ def page(tables, ratios):
         prose("A tree that arrives in blocks of a given size, beside opening the whole and beside plain Rust that takes the same blocks."),
         parts_table(tables["parts"]),
         "## A batch of 32 windows",
-        prose("One call for 32 windows beside 32 single calls of the library, through C; f = 16. Times are a window's."),
+        prose("One call for 32 windows beside 32 single calls of the library, through C, in five times the rounds; f = 16. Times are a window's."),
         batch_table(tables["batch"]),
         prose("""The same through Python, over 4,096 tiles of two float64 dimensions at f = 16: 32 calls of `query`, one of `query_batch` with a
             list of windows, and one with a buffer of them."""),

@@ -13,8 +13,10 @@ mod plain;
 use data::{CAPACITY, Cells, FIELDS};
 use peers::Peer;
 use plain::Kind;
+use std::cell::RefCell;
 use std::hint::black_box;
 use std::ops::Range;
+use std::rc::Rc;
 use std::time::{Duration, Instant};
 
 const FANOUTS: [usize; 4] = [2, 10, 16, 1024];
@@ -29,9 +31,10 @@ const MIX: [Kind; 4] = [Kind::Float64, Kind::Int32, Kind::Float32, Kind::Int64];
 /// So many small windows that their branches can't be learnt by heart.
 const SMALL: usize = 1024;
 const LARGE: usize = 32;
-/// So many windows to a batch, over trees of this fanout.
+/// So many windows to a batch, over trees of this fanout, in so many times the rounds, since the two times are nearly the same.
 const BATCH: usize = 32;
 const BATCH_FANOUT: usize = 16;
+const BATCH_ROUNDS: usize = 5;
 const LEAST: Duration = Duration::from_micros(600);
 const TRIALS: usize = 3;
 
@@ -179,9 +182,12 @@ impl Asked {
         let (mut records, mut out, mut again) = ([[0; 5]; BATCH], vec![0; BATCH * self.tiles], vec![0; BATCH * self.tiles]);
         assert_eq!(self.batched(&batches, &mut records, &mut out), self.single(&mut again));
         assert_eq!(out, again);
+        // Both write to one buffer.
+        let first = Rc::new(RefCell::new(out));
+        let second = first.clone();
         [
-            Box::new(move || _ = black_box(self.batched(&batches, &mut records, &mut out))),
-            Box::new(move || _ = black_box(self.single(&mut again))),
+            Box::new(move || _ = black_box(self.batched(&batches, &mut records, &mut first.borrow_mut()))),
+            Box::new(move || _ = black_box(self.single(&mut second.borrow_mut()))),
         ]
     }
 
@@ -443,7 +449,7 @@ impl Bench {
                 for (size, windows) in [("small", data::windows(d, 4.0 / n as f64, SMALL)), ("large", data::windows(d, 0.1, LARGE))] {
                     let asked = Asked::new(&kinds, &leaves, &windows, &[BATCH_FANOUT]);
                     let (found, looked) = asked.agree(&asked.all(), &[])[0];
-                    let taken: Vec<f64> = measure(asked.batch_runs().into(), self.rounds).iter().map(|t| t / windows.len() as f64).collect();
+                    let taken: Vec<f64> = measure(asked.batch_runs().into(), BATCH_ROUNDS * self.rounds).iter().map(|t| t / windows.len() as f64).collect();
                     let row = format!("{kind}\t{d}\t{n}\t{size}\t{found:.1}\t{looked:.1}");
                     self.rows.push(format!("batch\t{row}\t{:.1}\t{:.1}", taken[0], taken[1]));
                     self.ratio(format!("single/batch/{kind}/D={d}/n={n}/{size}"), taken[0], taken[1]);

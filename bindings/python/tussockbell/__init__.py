@@ -29,6 +29,7 @@ from __future__ import annotations
 
 import ctypes
 import functools
+import itertools
 import math
 import mmap
 import operator
@@ -39,7 +40,7 @@ from array import array
 from collections.abc import Callable, Iterable, Iterator, Sequence
 from contextlib import contextmanager
 from dataclasses import dataclass, field
-from typing import Any, NamedTuple, Optional, Protocol, SupportsFloat, SupportsIndex, Tuple, Union, overload
+from typing import Any, NamedTuple, Optional, Protocol, SupportsFloat, SupportsIndex, Tuple, Union, cast, overload
 
 __all__ = [
     "Description", "Footer", "Hit", "Offsets", "Opened", "Refused", "Tree", "TreeParts", "Window",
@@ -275,8 +276,9 @@ _INTEGERS = [_NAMES["int32"], _NAMES["int64"], _UINT64]
 _WIDTHS = {kind: struct.calcsize(one) for kind, one in _FORMATS.items()}
 # Both ends at once, where nothing has to be looked at first.
 _PAIRS = {kind: struct.Struct(one + one[1]).pack for kind, one in _FORMATS.items() if kind != _FLOAT32}
-# A result buffer is as many of these as it has places; a place is a uint32_t.
-_ONE_TILE = array("I", [0])
+# A result buffer is as many of these as it has places, and a run of records as many as it has numbers. A place is a uint32_t; a
+# tile's number fits a signed item, which Python reads quicker.
+_ONE_TILE, _ONE_NUMBER = array("i", [0]), array("Q", [0])
 # The room that a query or a batch is first asked with. One that finds more tiles is asked once more, with room for all of them, so
 # that it costs what it finds, however many tiles there are.
 _FIRST_ROOM = 4096
@@ -374,27 +376,35 @@ def _window_bytes(kinds: bytes, sides: Sequence[Any]) -> tuple[bytes, bytes]:
     return bytes(given), b"".join(ends)
 
 
+@functools.lru_cache(maxsize=64)
 def _window_width(kinds: bytes) -> int:
     """The bytes of a window in a run of them: a number that is no kind counts as int32, and the first four count."""
     return sum(2 * _WIDTHS.get(kind, _WIDTHS[_NAMES["int32"]]) for kind in kinds[:_MOST_DIMENSIONS])
 
 
 @functools.lru_cache(maxsize=64)
-def _packer(kinds: bytes, count: int) -> Callable[..., bytes]:
-    """What packs the ends of so many windows, one after the other."""
-    return struct.Struct("<" + "".join(2 * _FORMATS[kind][1] for kind in kinds) * count).pack
+def _packer(kinds: bytes) -> Callable[[list[Any]], bytes]:
+    """What packs windows of these kinds. A window that has another number of sides, or a side that is no pair, is a ValueError."""
+    pack = struct.Struct("<" + "".join(2 * _FORMATS[kind][1] for kind in kinds)).pack
+    packers: dict[int, Callable[[list[Any]], bytes]] = {
+        1: lambda windows: b"".join([pack(a, b) for ((a, b),) in windows]),
+        2: lambda windows: b"".join([pack(a, b, c, d) for (a, b), (c, d) in windows]),
+        3: lambda windows: b"".join([pack(a, b, c, d, e, f) for (a, b), (c, d), (e, f) in windows]),
+        4: lambda windows: b"".join([pack(a, b, c, d, e, f, g, h) for (a, b), (c, d), (e, f), (g, h) in windows]),
+    }
+    return packers[len(kinds)]
 
 
 def _packed(kinds: bytes, windows: list[Any]) -> Optional[bytes]:
-    """All windows packed at once, or None where one has to be looked at first."""
+    """All windows packed, or None where one has to be looked at first."""
     try:
-        if {len(window) for window in windows} != {len(kinds)} or len(kinds) > _MOST_DIMENSIONS:
+        # A window that can be gone through only once has no length: it is left to be looked at.
+        if not all(map(len, windows)):
             return None
-        ends = [end for window in windows for low, high in window for end in (low, high)]
         # A float32 end that is no float yet may have to be rounded with care.
-        if _FLOAT32 in kinds and {type(end) for end in ends} != {float}:
+        if _FLOAT32 in kinds and {type(end) for window in windows for side in window for end in side} != {float}:
             return None
-        return _packer(kinds, len(windows))(*ends)
+        return _packer(kinds)(windows)
     except (KeyError, TypeError, ValueError, struct.error, OverflowError):
         return None
 
@@ -480,6 +490,10 @@ class Hit(NamedTuple):
     tiles: list[int]
     found: int
     looked: int
+
+
+# A hit made as the tuple that it is, of its three items at once, takes half of the time.
+_tuple_as = cast(Callable[[type[Hit], tuple[list[int], int, int]], Hit], tuple.__new__)
 
 
 @dataclass(frozen=True)
@@ -591,16 +605,17 @@ def query(
 
 def _ask_run(
     description: Description, tiles: int, tree: tuple[Optional[int], int], windows: tuple[Any, int], places: int,
-) -> tuple[list[int], array[int]]:
+) -> tuple[array[int], array[int]]:
     """The records of a run of windows that have the description's kinds, and the result buffer."""
     kinds = description._given[0]
     width = _window_width(kinds)
-    records, out, answer = (_u64 * (windows[1] // width * _RECORD_PLACES if width else 0))(), _ONE_TILE * places, _BatchAnswer()
+    records = _ONE_NUMBER * (windows[1] // width * _RECORD_PLACES if width else 0)
+    out, answer = _ONE_TILE * places, _BatchAnswer()
     _c_query_batch(
-        *description._given, tiles, *tree, kinds, len(kinds), *windows, records, len(records), out.buffer_info()[0], places, answer
+        *description._given, tiles, *tree, kinds, len(kinds), *windows, *records.buffer_info(), *out.buffer_info(), answer
     )
     _check(answer)
-    return records[:], out
+    return records, out
 
 
 def _ask_all(
@@ -610,22 +625,26 @@ def _ask_all(
     wanted = most if room is None else min(max(operator.index(room), 0), most)
     places = min(wanted, _FIRST_ROOM)
     records, out = _ask_run(description, tiles, tree, windows, places)
-    needed = min(sum(records[_QUERY_FOUND::_RECORD_PLACES]), wanted)
-    if places < needed:
-        records, out = _ask_run(description, tiles, tree, windows, needed)
-    listed, at = out[: sum(records[_RECORD_USED::_RECORD_PLACES])].tolist(), 0
-    answers: list[Union[Hit, Refused]] = []
-    for number, place, found, looked, used in zip(*[iter(records)] * _RECORD_PLACES):
-        answers.append(Refused(number, place) if number else Hit(listed[at : at + used], found, looked))
-        at += used
-    return answers
+    found, used = records[_QUERY_FOUND::_RECORD_PLACES], records[_RECORD_USED::_RECORD_PLACES]
+    if used != found and places < wanted:
+        records, out = _ask_run(description, tiles, tree, windows, min(sum(found), wanted))
+        used = records[_RECORD_USED::_RECORD_PLACES]
+    listed = [out[end - count : end].tolist() for count, end in zip(used, itertools.accumulate(used))]
+    hits = map(_tuple_as, itertools.repeat(Hit), zip(listed, found, records[_QUERY_LOOKED::_RECORD_PLACES]))
+    numbers = records[_NUMBER::_RECORD_PLACES]
+    if not any(numbers):
+        return list(hits)
+    refusals = zip(numbers, records[_PLACE::_RECORD_PLACES])
+    return [Refused(number, place) if number else hit for (number, place), hit in zip(refusals, hits)]
 
 
 def _ask_batch(
     description: Description, tiles: int, tree: tuple[Optional[int], int], windows: Windows, room: Optional[SupportsIndex],
 ) -> list[Union[Hit, Refused]]:
+    if isinstance(windows, bytes):
+        return _ask_all(description, tiles, tree, (windows, len(windows)), room)
     try:
-        view = _lend(windows)  # type: ignore[arg-type]
+        view = None if isinstance(windows, (list, tuple)) else _lend(windows)  # type: ignore[arg-type]
     except TypeError:
         view = None
     if view is None:

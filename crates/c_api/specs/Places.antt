@@ -18,7 +18,6 @@ use Rattle.lists.specs.declared.TileOffsets.{TileOffsets}
 use Rattle.lists.specs.declared.TileSizes.{TileSizes}
 use Rattle.lists.specs.declared.Extent.{Extent}
 use Rattle.rtree.specs.declared.Opened.{Opened}
-use Rattle.query.specs.declared.Answer.{Answer}
 
 -- a footer's numbers
 unfoldable pub numberPlaces : Footer → List ℕ
@@ -69,9 +68,6 @@ namePlaces d footer r = cond (eqb (r .number) 0) (start d footer "name") 0 ∷ r
 
 abbrev pub openedPlaces : Opened → List ℕ
 openedPlaces r = r .number ∷ r .place ∷ r .which ∷ r .tiles ∷ r .fanout ∷ r .levels ∷ []
-
-abbrev pub answerPlaces : Answer → List ℕ
-answerPlaces r = r .number ∷ r .place ∷ r .found ∷ r .looked ∷ []
 
 abbrev pub offsetsPlaces : TileOffsets → List ℕ
 offsetsPlaces r = r .number ∷ r .place ∷ r .tiles ∷ []

@@ -10,13 +10,11 @@ ghost use Rattle.lists.specs.Offsets.{offsetsAnswer, extentAt, extentAnswer};
 ghost use Rattle.lists.specs.VarOffsets.{varOffsetsAnswer, varExtentAnswer};
 ghost use Rattle.lists.specs.Sizes.{sizesAnswer};
 ghost use Rattle.rtree.specs.Opening.{openAnswer};
-ghost use Rattle.query.specs.Query.{queryAnswer, queryBuffer, Promises};
 ghost use Rattle.decimal.specs.Write.{put};
 ghost use Rattle.report_text.specs.Text.{mostText, reportText};
 ghost use Rattle.c_arguments.specs.Described.{describe};
-ghost use Rattle.c_arguments.specs.Windows.{windowOfBytes};
 ghost use Rattle.c_api.specs.Places.{numberPlaces, rangePlaces, domainPlaces, footerPlaces, namePlaces};
-ghost use Rattle.c_api.specs.Places.{openedPlaces, answerPlaces, offsetsPlaces, sizesPlaces, extentPlaces};
+ghost use Rattle.c_api.specs.Places.{openedPlaces, offsetsPlaces, sizesPlaces, extentPlaces};
 
 // Every number of a footer.
 #[no_mangle]
@@ -106,43 +104,6 @@ pub extern "C" fn tussockbell_open(
     let d = c_arguments::describe(kinds, fields, capacity);
     let r = opening::open(d, file_size, footer, tree);
     *answer = [r.number, r.place, r.which, r.tiles, r.fanout, r.levels];
-}
-
-// Which tiles does a window touch?
-#[no_mangle]
-pub extern "C" fn tussockbell_query(
-    kinds: &[u8],
-    fields: u64,
-    capacity: u64,
-    tiles: u64,
-    tree: &[u8],
-    window_kinds: &[u8],
-    window_ends: &[u8],
-    out: &mut [u32],
-    answer: &mut [u64; 4],
-)
-    ensures answer { λ _. ⌜ now (answer .exit) ≡ answerPlaces (queryAnswer
-        (describe (now (kinds .entry)) fields capacity) tiles (now (tree .entry))
-        (windowOfBytes (describe (now (kinds .entry)) fields capacity)
-        (now («window_kinds» .entry)) (now («window_ends» .entry)))) ⌝ }
-    ensures buffer { λ _. ⌜ now (out .exit) ≡ queryBuffer
-        (describe (now (kinds .entry)) fields capacity) tiles (now (tree .entry))
-        (windowOfBytes (describe (now (kinds .entry)) fields capacity)
-        (now («window_kinds» .entry)) (now («window_ends» .entry)))
-        (now (out .entry)) ⌝ }
-    ensures promises { λ _. ⌜ Promises
-        (describe (now (kinds .entry)) fields capacity) tiles (now (tree .entry))
-        (windowOfBytes (describe (now (kinds .entry)) fields capacity)
-        (now («window_kinds» .entry)) (now («window_ends» .entry)))
-        (queryAnswer (describe (now (kinds .entry)) fields capacity) tiles (now (tree .entry))
-        (windowOfBytes (describe (now (kinds .entry)) fields capacity)
-        (now («window_kinds» .entry)) (now («window_ends» .entry))))
-        (now (out .entry)) (now (out .exit)) ⌝ }
-{
-    let d = c_arguments::describe(kinds, fields, capacity);
-    let w = c_arguments::window_of(d, window_kinds, window_ends);
-    let r = query::query(d, tiles, tree, w, out);
-    *answer = [r.number, r.place, r.found, r.looked];
 }
 
 // Checks tile offsets.

@@ -1,6 +1,6 @@
 -- `c_api::tussockbell_schema_name` meets its contract: the library's own answer, place by place. Assumes nothing.
 use borrow.Author.Needs.{needs}
-use Rattle.c_api.proofs.Answers.{named}
+use Rattle.c_api.proofs.SchemaName.{named}
 use Rattle.c_api.proofs.tussockbell_schema_name.Statement.{statement}
 use Rattle.c_api.proofs.tussockbell_schema_name.Tie as tie
 

@@ -2,8 +2,9 @@
 -- for the answer to each.
 -- Assumes nothing.
 use Prim.Native.Nat.{ℕ, _-_, _*_, _/_}
+use mathlib.Core.Path.{_≡_}
 use mathlib.Core.Bool.{Bool, _&&_, cond}
-use mathlib.Core.List.{List, [], _∷_}
+use mathlib.Core.List.{List, [], _∷_, _++_}
 use lib.Dec.{eqb}
 use lib.ListN.{length, getD, take, drop}
 use Rattle.answers.specs.Refusals.{runs}
@@ -15,7 +16,7 @@ use Rattle.query.specs.Query.{queryAnswer}
 use Rattle.c_arguments.specs.Described.{numberedDimensions}
 use Rattle.c_arguments.specs.Windows.{windowOfBytes}
 use Rattle.batch.specs.declared.Batch.{Batch}
-use Rattle.batch.specs.Batch.{noWindow, usedBy, foundBefore}
+use Rattle.batch.specs.Batch.{noWindow, usedBy, foundBefore, batchAnswers, batchBuffer, EachPromises}
 
 -- the bytes of each window: those of its ranges. A number that is no kind counts as int32's
 abbrev pub windowBytes : List ℕ → ℕ
@@ -59,3 +60,18 @@ module _ (d : Description) (n : ℕ) (body : List ℕ) (ws : List Window) (room 
 
   abbrev pub recordPlaces : List ℕ
   recordPlaces = join recordAt 0 (length ws)
+
+-- All that is promised of a batch that is lent:
+module _ (d : Description) (n : ℕ) (body numbers bytes told lent : List ℕ) where
+  abbrev asked : List Window
+  asked = windowsAsked d numbers bytes (length lent)
+
+  pub record LentAnswered (answered before after : List ℕ) : Type 0 where
+    -- as a whole it answers 22, or how many windows were asked
+    pub batch : told ≡ batchPlaces (lentBatch (windowBytes numbers) (length bytes) (length lent))
+    -- the answer run has the records of the windows, one after the other, and its other numbers stay
+    pub answers : answered ≡ recordPlaces d n body asked (length before) ++ drop (5 * length asked) lent
+    -- each window is asked with what the earlier ones left of the buffer
+    pub buffer : after ≡ batchBuffer d n body asked before
+    -- the demands hold per window
+    pub promises : EachPromises d n body asked (batchAnswers d n body asked) before after

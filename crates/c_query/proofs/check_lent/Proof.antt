@@ -1,4 +1,4 @@
--- `c_batch::check_lent` meets its contract.
+-- `c_query::check_lent` meets its contract.
 -- Assumes nothing.
 use mathlib.Core.Path.{refl, _∙_}
 use Prim.Native.Nat.{_-_, _/_, _^_, _≤_}
@@ -7,9 +7,9 @@ use native.Mathlib.Omega.{arith}
 use borrow.Author.Needs.{needs}
 use borrow.Author.Tests.{eq-eqb, ne-eqb}
 use Rattle.batch.specs.Batch.{batchOf}
-use Rattle.c_batch.specs.Lent.{lentBatch}
-use Rattle.c_batch.proofs.check_lent.Statement.{statement}
-use Rattle.c_batch.proofs.check_lent.Tie as tie
+use Rattle.c_query.specs.Lent.{lentBatch}
+use Rattle.c_query.proofs.check_lent.Statement.{statement}
+use Rattle.c_query.proofs.check_lent.Tie as tie
 
 mul-if2 : tie.Need-mul-if2
 mul-if2 c =

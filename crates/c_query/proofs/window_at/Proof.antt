@@ -1,11 +1,11 @@
--- `c_batch::window_at` meets its contract.
+-- `c_query::window_at` meets its contract.
 -- Assumes nothing.
 use mathlib.Core.Path.{_≡_, _∙_}
 use Prim.Native.Nat.{_+_, _-_, _*_}
 use native.Mathlib.Omega.{arith}
 use borrow.Author.Needs.{needs}
-use Rattle.c_batch.proofs.window_at.Statement.{statement}
-use Rattle.c_batch.proofs.window_at.Tie as tie
+use Rattle.c_query.proofs.window_at.Statement.{statement}
+use Rattle.c_query.proofs.window_at.Tie as tie
 
 mul-start : tie.Need-mul-start
 mul-start c = search needs

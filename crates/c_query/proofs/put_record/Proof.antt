@@ -1,12 +1,12 @@
--- `c_batch::put_record` meets its contract: five stores, one after the other.
+-- `c_query::put_record` meets its contract: five stores, one after the other.
 -- Assumes nothing.
 use mathlib.Core.Path.{_≡_}
 use Prim.Native.Nat.{suc, _+_}
 use native.Mathlib.Omega.{arith}
 use lib.ListN.{length-set}
 use borrow.Author.Needs.{needs}
-use Rattle.c_batch.proofs.put_record.Statement.{statement}
-use Rattle.c_batch.proofs.put_record.Tie as tie
+use Rattle.c_query.proofs.put_record.Statement.{statement}
+use Rattle.c_query.proofs.put_record.Tie as tie
 
 mul-answers : tie.Need-mul-answers
 mul-answers c = search needs

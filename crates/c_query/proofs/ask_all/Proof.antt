@@ -1,4 +1,4 @@
--- `c_batch::ask_all` meets its contract. The invariant: after i windows the places used, the buffer and the answer run are what the batch has after i
+-- `c_query::ask_all` meets its contract. The invariant: after i windows the places used, the buffer and the answer run are what the batch has after i
 -- windows. Assumes nothing.
 use Prim.Native.Nat.{_+_, _-_, _*_, _≤_, _<_}
 use mathlib.Core.Path.{_≡_, refl, ap, sym, _∙_}
@@ -8,10 +8,10 @@ use borrow.Author.Needs.{needs}
 use lib.ListN.{length, drop}
 use Rattle.answers.specs.Runs.{over, join}
 use Rattle.batch.specs.Code.Run.{usedAt, bufferAt}
-use Rattle.c_batch.specs.Lent.{windowsOf, recordAt}
-use Rattle.c_batch.proofs.Lent.{windows-length, window-at, bytes-there, buffer-done, same-places, buffer-length, turn-used, turn-buffer, not-fewer, turn-record}
-use Rattle.c_batch.proofs.ask_all.Statement.{statement}
-use Rattle.c_batch.proofs.ask_all.Tie as tie
+use Rattle.c_query.specs.Lent.{windowsOf, recordAt}
+use Rattle.c_query.proofs.Lent.{windows-length, window-at, bytes-there, buffer-done, same-places, buffer-length, turn-used, turn-buffer, not-fewer, turn-record}
+use Rattle.c_query.proofs.ask_all.Statement.{statement}
+use Rattle.c_query.proofs.ask_all.Tie as tie
 
 abbrev Inv-loop : tie.InvT-loop
 Inv-loop d tiles tree window-kinds windows width count answers₀ out₀ used₀ i₀ answers out used i =

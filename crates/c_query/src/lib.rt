@@ -1,4 +1,5 @@
-// A batch of windows as an exported function on numbers and slices. include/tussockbell.h declares it for C.
+// The window query and a batch of windows as exported functions on numbers and slices. include/tussockbell.h declares
+// them for C.
 use answers::Refusal;
 use batch::Asked;
 use batch::Batch;
@@ -9,10 +10,49 @@ ghost use mathlib.Core.List.{_++_, _∷_, []};
 ghost use Prim.Native.Nat.{_+_, _-_, _*_, _^_, _≤_, _<_};
 ghost use lib.ListN.{length, drop};
 ghost use lib.Seq.{sets};
+ghost use Rattle.query.specs.Query.{queryAnswer, queryBuffer, Promises};
+ghost use Rattle.batch.specs.Batch.{batchBuffer};
 ghost use Rattle.c_arguments.specs.Described.{describe};
-ghost use Rattle.batch.specs.Batch.{batchAnswers, batchBuffer, EachPromises};
-ghost use Rattle.c_batch.specs.Lent.{windowBytes, lentBatch, windowAt, windowsOf, windowsAsked, batchPlaces};
-ghost use Rattle.c_batch.specs.Lent.{recordPlaces};
+ghost use Rattle.c_arguments.specs.Windows.{windowOfBytes};
+ghost use Rattle.c_query.specs.Places.{answerPlaces};
+ghost use Rattle.c_query.specs.Lent.{windowBytes, lentBatch, windowAt, windowsOf, recordPlaces, LentAnswered};
+
+// Which tiles does a window touch?
+#[no_mangle]
+pub extern "C" fn tussockbell_query(
+    kinds: &[u8],
+    fields: u64,
+    capacity: u64,
+    tiles: u64,
+    tree: &[u8],
+    window_kinds: &[u8],
+    window_ends: &[u8],
+    out: &mut [u32],
+    answer: &mut [u64; 4],
+)
+    ensures answer { λ _. ⌜ now (answer .exit) ≡ answerPlaces (queryAnswer
+        (describe (now (kinds .entry)) fields capacity) tiles (now (tree .entry))
+        (windowOfBytes (describe (now (kinds .entry)) fields capacity)
+        (now («window_kinds» .entry)) (now («window_ends» .entry)))) ⌝ }
+    ensures buffer { λ _. ⌜ now (out .exit) ≡ queryBuffer
+        (describe (now (kinds .entry)) fields capacity) tiles (now (tree .entry))
+        (windowOfBytes (describe (now (kinds .entry)) fields capacity)
+        (now («window_kinds» .entry)) (now («window_ends» .entry)))
+        (now (out .entry)) ⌝ }
+    ensures promises { λ _. ⌜ Promises
+        (describe (now (kinds .entry)) fields capacity) tiles (now (tree .entry))
+        (windowOfBytes (describe (now (kinds .entry)) fields capacity)
+        (now («window_kinds» .entry)) (now («window_ends» .entry)))
+        (queryAnswer (describe (now (kinds .entry)) fields capacity) tiles (now (tree .entry))
+        (windowOfBytes (describe (now (kinds .entry)) fields capacity)
+        (now («window_kinds» .entry)) (now («window_ends» .entry))))
+        (now (out .entry)) (now (out .exit)) ⌝ }
+{
+    let d = c_arguments::describe(kinds, fields, capacity);
+    let w = c_arguments::window_of(d, window_kinds, window_ends);
+    let r = query::query(d, tiles, tree, w, out);
+    *answer = [r.number, r.place, r.found, r.looked];
+}
 
 // Which tiles does each window of a batch touch?
 #[no_mangle]
@@ -28,29 +68,9 @@ pub extern "C" fn tussockbell_query_batch(
     out: &mut [u32],
     answer: &mut [u64; 3],
 )
-    ensures batch { λ _. ⌜ now (answer .exit) ≡ batchPlaces (lentBatch (windowBytes (now («window_kinds» .entry)))
-        (length (now (windows .entry))) (length (now (answers .entry)))) ⌝ }
-    ensures answers { λ _. ⌜ now (answers .exit) ≡ recordPlaces
-        (describe (now (kinds .entry)) fields capacity) tiles (now (tree .entry))
-        (windowsAsked (describe (now (kinds .entry)) fields capacity)
-        (now («window_kinds» .entry)) (now (windows .entry)) (length (now (answers .entry))))
-        (length (now (out .entry)))
-        ++ drop (5 * length (windowsAsked (describe (now (kinds .entry)) fields capacity)
-        (now («window_kinds» .entry)) (now (windows .entry)) (length (now (answers .entry)))))
-        (now (answers .entry)) ⌝ }
-    ensures buffer { λ _. ⌜ now (out .exit) ≡ batchBuffer
-        (describe (now (kinds .entry)) fields capacity) tiles (now (tree .entry))
-        (windowsAsked (describe (now (kinds .entry)) fields capacity)
-        (now («window_kinds» .entry)) (now (windows .entry)) (length (now (answers .entry))))
-        (now (out .entry)) ⌝ }
-    ensures promises { λ _. ⌜ EachPromises
-        (describe (now (kinds .entry)) fields capacity) tiles (now (tree .entry))
-        (windowsAsked (describe (now (kinds .entry)) fields capacity)
-        (now («window_kinds» .entry)) (now (windows .entry)) (length (now (answers .entry))))
-        (batchAnswers (describe (now (kinds .entry)) fields capacity) tiles (now (tree .entry))
-        (windowsAsked (describe (now (kinds .entry)) fields capacity)
-        (now («window_kinds» .entry)) (now (windows .entry)) (length (now (answers .entry)))))
-        (now (out .entry)) (now (out .exit)) ⌝ }
+    ensures { λ _. ⌜ LentAnswered (describe (now (kinds .entry)) fields capacity) tiles (now (tree .entry))
+        (now («window_kinds» .entry)) (now (windows .entry)) (now (answer .exit))
+        (now (answers .entry)) (now (answers .exit)) (now (out .entry)) (now (out .exit)) ⌝ }
 {
     let d = c_arguments::describe(kinds, fields, capacity);
     let width = window_bytes(window_kinds);

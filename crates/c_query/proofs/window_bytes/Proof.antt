@@ -1,9 +1,9 @@
--- `c_batch::window_bytes` meets its contract.
+-- `c_query::window_bytes` meets its contract.
 -- Assumes nothing.
 use mathlib.Core.Path.{_∙_}
 use borrow.Author.Needs.{needs}
-use Rattle.c_batch.proofs.window_bytes.Statement.{statement}
-use Rattle.c_batch.proofs.window_bytes.Tie as tie
+use Rattle.c_query.proofs.window_bytes.Statement.{statement}
+use Rattle.c_query.proofs.window_bytes.Tie as tie
 
 returns : tie.Need-returns
 returns c = c .box-bytes .ensures ∙ rw (c .before .dimensions-of .ensures)

@@ -1,12 +1,12 @@
--- `c_batch::tussockbell_query_batch` meets its contract: what the windows come to once they are asked is all that it promises.
+-- `c_query::tussockbell_query_batch` meets its contract: what the windows come to once they are asked is all that it promises.
 -- Assumes nothing.
 use native.Mathlib.Omega.{arith}
 use lib.ListN.{length}
 use borrow.Author.Needs.{needs}
 use Rattle.c_arguments.specs.Described.{describe}
-use Rattle.c_batch.proofs.Lent.{width-most, lent-whole, promised}
-use Rattle.c_batch.proofs.tussockbell_query_batch.Statement.{statement}
-use Rattle.c_batch.proofs.tussockbell_query_batch.Tie as tie
+use Rattle.c_query.proofs.Lent.{width-most, lent-whole, promised}
+use Rattle.c_query.proofs.tussockbell_query_batch.Statement.{statement}
+use Rattle.c_query.proofs.tussockbell_query_batch.Tie as tie
 
 describe-requires : tie.Need-describe-requires
 describe-requires c κs = search needs

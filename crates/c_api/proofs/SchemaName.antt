@@ -1,30 +1,16 @@
--- What the library answers over its own description and window, over those that the numbers and bytes stand for.
--- Assumes nothing.
+-- The places of the schema name, over the description that the numbers stand for. Assumes nothing.
 use Prim.Native.Nat.{ℕ}
-use mathlib.Core.Path.{_≡_, refl, sym, ap}
+use mathlib.Core.Path.{_≡_, refl, sym}
 use mathlib.Core.Bool.{Bool, true, false, cond}
 use mathlib.Core.List.{List, [], _∷_}
 use lib.Dec.{eqb}
 use lib.ListN.{take, drop}
 use Rattle.description.specs.declared.Description.{Description}
-use Rattle.boxes.specs.declared.Window.{Window}
 use Rattle.footer.specs.declared.Checked.{Checked}
 use Rattle.footer.specs.Fields.{start}
 use Rattle.footer.specs.Checks.{footerRefusal}
 use Rattle.footer.specs.Answer.{acceptedChecked, refusedChecked, checkedAnswer, checkedAnswerBy, schemaName, schemaNameBy}
-use Rattle.query.specs.declared.Answer.{Answer}
-use Rattle.query.specs.Query.{queryAnswer, queryBuffer, Promises}
-use Rattle.query.proofs.Promised.{keeps}
-use Rattle.c_api.specs.Places.{namePlaces, answerPlaces}
-
--- a query, with a window that goes by the description
-pub asked : {d : Description} {n : ℕ} {body before after : List ℕ} {w : Window} {r : Answer} (described : Description)
-    (f : Description → Window) → d ≡ described → w ≡ f d → r ≡ queryAnswer d n body w → after ≡ queryBuffer d n body w before
-    → (answerPlaces r ≡ answerPlaces (queryAnswer described n body (f described)))
-    × ((after ≡ queryBuffer described n body (f described) before)
-    × Promises described n body (f described) (queryAnswer described n body (f described)) before after)
-asked {d} {n} {body} {before} described f p q e b =
-    let left = rw (q, p) at b in (ap answerPlaces (rw (q, p) at e), (left, keeps described n body (f described) refl before left))
+use Rattle.c_api.specs.Places.{namePlaces}
 
 -- the name's places are those of the schema name
 module _ (d : Description) (F : ℕ) (bytes : List ℕ) where

@@ -23,12 +23,12 @@ use Rattle.boxes.specs.declared.Window.{Window}
 use Rattle.c_arguments.specs.Described.{numberedDimensions}
 use Rattle.batch.specs.declared.Asked.{Asked}
 use Rattle.batch.specs.declared.Batch.{Batch}
-use Rattle.batch.specs.Batch.{noWindow, usedBy, askedFrom, askedBuffer, foundByAll, foundBefore, batchAnswers, batchBuffer, EachPromises}
+use Rattle.batch.specs.Batch.{noWindow, usedBy, askedFrom, askedBuffer, foundByAll, foundBefore, batchBuffer}
 use Rattle.batch.specs.Code.Run.{usedAt, bufferAt}
 use Rattle.batch.proofs.Laying.{laid-length}
 use Rattle.batch.proofs.Run.{used-at, buffer-at, buffer-all}
 use Rattle.batch.proofs.Windows.{each-promised}
-use Rattle.c_batch.specs.Lent.{windowBytes, lentBatch, windowAt, windowsOf, windowsAsked, batchPlaces, recordAt, recordPlaces}
+use Rattle.c_query.specs.Lent.{windowBytes, lentBatch, windowAt, windowsOf, batchPlaces, recordAt, recordPlaces, LentAnswered}
 
 pub width-most : (numbers : List ℕ) → windowBytes numbers ≤ 64
 unfolding boxBytes
@@ -144,25 +144,18 @@ module _ (d : Description) (n : ℕ) (body : List ℕ) (ws : List Window) (out :
     turn-record old fit so e = e ∙ rw so (ap (sets (records i ++ drop (5 * i) old) (5 * i)) told-record ∙ stored old i fit)
 
 -- what the exported function promises follows from what the batch has once its windows are asked
-module _ (d : Description) (n : ℕ) (body numbers bytes old out : List ℕ) where
-  abbrev asked : List Window
-  asked = windowsAsked d numbers bytes (length old)
-
-  pub promised : {e : Description} → e ≡ d → {width : ℕ} → width ≡ windowBytes numbers
-      → {b : Batch} → b ≡ lentBatch width (length bytes) (length old)
-      → {told left : List ℕ}
-      → told ≡ recordPlaces e n body (windowsOf e numbers bytes (b .windows)) (length out) ++ drop (5 * b .windows) old
-      → left ≡ batchBuffer e n body (windowsOf e numbers bytes (b .windows)) out
-      → (batchPlaces b ≡ batchPlaces (lentBatch (windowBytes numbers) (length bytes) (length old)))
-      × ((told ≡ recordPlaces d n body asked (length out) ++ drop (5 * length asked) old)
-      × ((left ≡ batchBuffer d n body asked out)
-      × EachPromises d n body asked (batchAnswers d n body asked) out left))
-  promised same w lent answered laid =
-      let count = lentBatch (windowBytes numbers) (length bytes) (length old) .windows in
-      let so = rw (same, lent, w) at laid in (
-        rw (lent, w),
-        (
-          rw (same, lent, w) at answered ∙ rw (windows-length d numbers bytes count),
-          (so, rw so (each-promised d n body asked out)),
-        ),
-      )
+pub promised : (d : Description) (n : ℕ) (body numbers bytes old out : List ℕ) {e : Description} → e ≡ d
+    → {width : ℕ} → width ≡ windowBytes numbers → {b : Batch} → b ≡ lentBatch width (length bytes) (length old)
+    → {told left : List ℕ}
+    → told ≡ recordPlaces e n body (windowsOf e numbers bytes (b .windows)) (length out) ++ drop (5 * b .windows) old
+    → left ≡ batchBuffer e n body (windowsOf e numbers bytes (b .windows)) out
+    → LentAnswered d n body numbers bytes (batchPlaces b) old told out left
+promised d n body numbers bytes old out same w lent answered laid =
+    let count = lentBatch (windowBytes numbers) (length bytes) (length old) .windows in
+    let so = rw (same, lent, w) at laid in
+    record {
+      batch = rw (lent, w);
+      answers = rw (same, lent, w) at answered ∙ rw (windows-length d numbers bytes count);
+      buffer = so;
+      promises = rw so (each-promised d n body (windowsOf d numbers bytes count) out);
+    }

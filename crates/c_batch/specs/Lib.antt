@@ -1,2 +1,0 @@
--- The definitions that the exported function's contract cites.
-pub mod Lent
