@@ -180,8 +180,8 @@ fn side_within(bytes: &[u8], outer: &[u8], at: usize, kind: Kind, sound: bool) -
     range.inside(Range::read(outer, at, kind))
 }
 
-// The same where the other range is sound. It is read with no test for a NaN, and each range from a part of known length,
-// so that the test of that length is none in the compiled code.
+// The same where the other range is sound. It is read with no test for a NaN, and each range from a part of known
+// length, so that the test of that length is none in the compiled code.
 fn within_sound(bytes: &[u8], outer: &[u8], at: usize, kind: Kind) -> bool
     requires { ⌜ (at + rangeBytes kind ≤ length (now bytes)) × SoundSide kind (now outer) at ⌝ }
     ensures { λ r. ⌜ r ≡ soundWithin kind (now (bytes .entry)) (now (outer .entry)) at ⌝ }
@@ -203,8 +203,8 @@ fn within_sound(bytes: &[u8], outer: &[u8], at: usize, kind: Kind) -> bool
     }
 }
 
-// Whether a range is sound and lies inside one that is finite: nothing infinite lies between finite ends, so its own are
-// not asked for that.
+// Whether a range is sound and lies inside one that is finite: nothing infinite lies between finite ends, so its own
+// are not asked for that.
 fn between(range: Range, outer: Range) -> bool
     requires { ⌜ isFinite (endsOf outer) ≡ true ⌝ }
     ensures { λ r. ⌜ r ≡ (isSound (verdict (endsOf range) range) && inside (endsOf range) (endsOf outer)) ⌝ }

@@ -13,8 +13,8 @@ zeroByte = 48
 abbrev pub nineByte : ℕ
 nineByte = 57
 
--- The digits of n, the highest first, by its tenth, rounded down: where that is 0 the one digit, else the digits of the tenth and
--- then the last digit. The first number is the most tenths that are taken.
+-- The digits of n, the highest first, by its tenth, rounded down: where that is 0 the one digit, else the digits of the
+-- tenth and then the last digit. The first number is the most tenths that are taken.
 unfoldable pub written : ℕ → ℕ → ℕ → List ℕ
 written zero n tenth = (zeroByte + n) ∷ []
 written (suc most) n zero = (zeroByte + n) ∷ []

@@ -1,4 +1,5 @@
--- Which number is read from a text, and from which texts is one read? Where nothing is read, every number in the answer is 0.
+-- Which number is read from a text, and from which texts is one read? Where nothing is read, every number in the answer
+-- is 0.
 -- Assumes nothing.
 use Prim.Native.Nat.{ℕ, _+_, _-_, _*_, _^_}
 use mathlib.Core.Bool.{Bool, true, false, cond, _&&_}
@@ -50,7 +51,8 @@ belowZero r = cond (r .read && ltb 0 (r .value)) (signMagnitude true (r .value))
 abbrev pub fromZero : Number → SignMagnitude
 fromZero r = cond (r .read) (signMagnitude false (r .value)) noSigned
 
--- A fit in two's complement, half of whose patterns stand for the negative numbers, from -half on: the others are below half.
+-- A fit in two's complement, half of whose patterns stand for the negative numbers, from -half on: the others are below
+-- half.
 unfoldable pub readSigned : ℕ → List ℕ → SignMagnitude
 readSigned half t = cond (startsWithMinus t) (belowZero (readNumber half (drop 1 t))) (fromZero (readNumber (half - 1) t))
 

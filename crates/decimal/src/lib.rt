@@ -1,5 +1,5 @@
-// Decimal numbers, read from text and written to it. Decimal means no leading zeros (0 alone is fine) and a minus only before a
-// nonzero number.
+// Decimal numbers, read from text and written to it. Decimal means no leading zeros (0 alone is fine) and a minus only
+// before a nonzero number.
 ghost use mathlib.Core.Path.{_≡_};
 ghost use Prim.Native.Nat.{_+_, _-_, _^_, _≤_, _<_};
 ghost use lib.ListN.{length};
@@ -102,8 +102,8 @@ pub fn digits(n: u64) -> usize
     count
 }
 
-// The digits go to that place of the buffer if it has room for all of them; else the buffer stays as it was. The answer is how
-// many they are, in either case.
+// The digits go to that place of the buffer if it has room for all of them; else the buffer stays as it was. The answer
+// is how many they are, in either case.
 pub fn write_u64(n: u64, out: &mut [u8], at: usize) -> usize
     ensures { λ r. ⌜ (r ≡ length (decimal n)) × (now (out .exit) ≡ put (now (out .entry)) at (decimal n)) ⌝ }
 {

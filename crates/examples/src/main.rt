@@ -8,6 +8,7 @@ use boxes::Window;
 use description::Description;
 use description::Dimension;
 use description::Kind;
+use footer::Footer;
 use libc::STDIN_FILENO;
 use libc::STDOUT_FILENO;
 use lists::Extent;
@@ -119,26 +120,8 @@ fn description(case: &[u8]) -> Description {
     }
 }
 
-// Every number of a footer, and the cells of tile `i` and of the whole.
-fn footer_case(case: &[u8], bytes: &[u8]) {
-    let d = description(case);
-    let size = order::u64_at(case, 72);
-    let i = order::u64_at(case, 80);
-    let f = footer::open(d, size, bytes);
-    number(f.number);
-    number(f.place);
-    number(f.version);
-    number(f.name_size);
-    number(f.dense);
-    number(f.null_domain);
-    number(f.tiles);
-    number(f.last_cells);
-    number(f.timestamps);
-    number(f.deletes);
-    number(f.rtree);
-    number(f.fragment);
-    number(f.conditions);
-    number(f.length);
+// A footer's lists, in the order of its fields.
+fn footer_lists(f: Footer) {
     let file_sizes = f.file_sizes;
     list(file_sizes);
     let file_var_sizes = f.file_var_sizes;
@@ -161,6 +144,29 @@ fn footer_case(case: &[u8], bytes: &[u8]) {
     list(sums);
     let null_counts = f.null_counts;
     list(null_counts);
+}
+
+// Every number of a footer, and the cells of tile `i` and of the whole.
+fn footer_case(case: &[u8], bytes: &[u8]) {
+    let d = description(case);
+    let size = order::u64_at(case, 72);
+    let i = order::u64_at(case, 80);
+    let f = footer::open(d, size, bytes);
+    number(f.number);
+    number(f.place);
+    number(f.version);
+    number(f.name_size);
+    number(f.dense);
+    number(f.null_domain);
+    number(f.tiles);
+    number(f.last_cells);
+    number(f.timestamps);
+    number(f.deletes);
+    number(f.rtree);
+    number(f.fragment);
+    number(f.conditions);
+    number(f.length);
+    footer_lists(f);
     number(footer::tile_cells(d, size, bytes, i));
     number(footer::total_cells(d, size, bytes));
 }

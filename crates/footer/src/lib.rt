@@ -10,8 +10,10 @@ ghost use Rattle.description.specs.Limits.{mostFields};
 ghost use Rattle.description.specs.Description.{boxBytes, sidesOf};
 ghost use Rattle.boxes.specs.Boxes.{rangesRefusal, boxOf};
 ghost use Rattle.footer.specs.Fields.{start, domainBytes};
-ghost use Rattle.footer.specs.Checks.{noFlag, flagSet, numberOutside, fileOffsetsRefusal, headChecks, fieldChecks, footerRefusal};
-ghost use Rattle.footer.specs.Answer.{cellsOf, entries, checkedAnswer, footerAnswer, refusedFooter, acceptedChecked, acceptedFooter, schemaName, tileCells, allCells};
+ghost use Rattle.footer.specs.Checks.{noFlag, flagSet, numberOutside, fileOffsetsRefusal, headChecks};
+ghost use Rattle.footer.specs.Checks.{fieldChecks, footerRefusal};
+ghost use Rattle.footer.specs.Answer.{cellsOf, entries, checkedAnswer, footerAnswer, refusedFooter};
+ghost use Rattle.footer.specs.Answer.{acceptedChecked, acceptedFooter, schemaName, tileCells, allCells};
 
 // What opening a tree, the name and the cells need of a footer. `domain` is the start of the domain's box, 0 where
 // refused.

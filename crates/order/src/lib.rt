@@ -322,8 +322,8 @@ pub fn pair32_at(s: &[u8], at: usize) -> Pair32
     Pair32 { low: 0, high: 0 }
 }
 
-// Two numbers of eight bytes, likewise. One comparison tells whether they are there; above, the compiler makes one of the
-// two itself, where it knows that a box has a multiple of eight bytes.
+// Two numbers of eight bytes, likewise. One comparison tells whether they are there; above, the compiler makes one of
+// the two itself, where it knows that a box has a multiple of eight bytes.
 pub fn pair64_at(s: &[u8], at: usize) -> Pair64
     ensures { λ r. ⌜ (r .low ≡ firstOfTwo (now (s .entry)) at 8) × (r .high ≡ secondOfTwo (now (s .entry)) at 8) ⌝ }
 {

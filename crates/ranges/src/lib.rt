@@ -20,8 +20,8 @@ pub enum Range {
     U64(u64, u64),
 }
 
-// The verdict on a range: what its ends are, and whether they are in order. A stored range must be sound; a window's may
-// be infinite.
+// The verdict on a range: what its ends are, and whether they are in order. A stored range must be sound; a window's
+// may be infinite.
 pub enum Verdict {
     Sound(Range),
     Infinite(Range),
@@ -296,7 +296,8 @@ fn finite_verdict(range: Range, ordered: bool) -> Verdict
     Verdict::Reversed
 }
 
-// The verdict on a range that is not sound: one end is NaN or not, the ends are in order or not, one is infinite or not.
+// The verdict on a range that is not sound: one end is NaN or not, the ends are in order or not, one is infinite or
+// not.
 fn other_verdict(range: Range, ordered: bool, nan: bool, infinite: bool) -> Verdict
     ensures { λ r. ⌜ r ≡ cond nan Verdict.NotANumber
         (cond ordered (Verdict.Infinite range) (cond infinite Verdict.InfiniteReversed Verdict.Reversed)) ⌝ }
@@ -322,13 +323,15 @@ fn lower(p: u64) -> u32
 
 // Is a at most b, and c at most d?
 fn i32s_in_order(a: i32, b: i32, c: i32, d: i32) -> bool
-    ensures { λ r. ⌜ r ≡ (atMost (ordered Kind.Int32) (ofZ w32 a) (ofZ w32 b) && atMost (ordered Kind.Int32) (ofZ w32 c) (ofZ w32 d)) ⌝ }
+    ensures { λ r. ⌜ r ≡ (atMost (ordered Kind.Int32) (ofZ w32 a) (ofZ w32 b)
+        && atMost (ordered Kind.Int32) (ofZ w32 c) (ofZ w32 d)) ⌝ }
 {
     order::i32_at_most(a, b) && order::i32_at_most(c, d)
 }
 
 fn i64s_in_order(a: i64, b: i64, c: i64, d: i64) -> bool
-    ensures { λ r. ⌜ r ≡ (atMost (ordered Kind.Int64) (ofZ w64 a) (ofZ w64 b) && atMost (ordered Kind.Int64) (ofZ w64 c) (ofZ w64 d)) ⌝ }
+    ensures { λ r. ⌜ r ≡ (atMost (ordered Kind.Int64) (ofZ w64 a) (ofZ w64 b)
+        && atMost (ordered Kind.Int64) (ofZ w64 c) (ofZ w64 d)) ⌝ }
 {
     order::i64_at_most(a, b) && order::i64_at_most(c, d)
 }

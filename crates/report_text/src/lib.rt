@@ -17,7 +17,8 @@ ghost use Rattle.report_text.specs.Asked.{dimensionOf, bitsAt, askedOf};
 ghost use Rattle.report_text.specs.Text.{mostBytes, mostText, field, piece, refusedText, headerText, rowText};
 ghost use Rattle.report_text.specs.Text.{tileText, answerText, reportText};
 ghost use Rattle.report_text.specs.Code.Reading.{Starts, Parts, ReadLine, ReadSide, ReadWidths, ReadWindow};
-ghost use Rattle.report_text.specs.Code.Writing.{mostWritten, mostFound, kept, Wrote, Ended, listed, outcomeText, Renders};
+ghost use Rattle.report_text.specs.Code.Writing.{mostWritten, mostFound, kept, Wrote, Ended, listed};
+ghost use Rattle.report_text.specs.Code.Writing.{outcomeText, Renders};
 
 // Answers the length of the text. It stands at the start of the buffer if all of it fits there; else the buffer stays
 // as it was.

@@ -6,7 +6,21 @@ use Rattle.c_arguments.proofs.all_kinds.Tie as tie
 
 returns : tie.Need-returns
 unfolding allKinds
-returns c = cc
+returns c =
+    let two = c .before in
+    let one = two .before in
+    let fourth = one .before in
+    let third = fourth .before in
+    let second = third .before in
+    rw (
+      c .both3 .ensures,
+      two .both2 .ensures,
+      one .both .ensures,
+      fourth .is-kind-at4 .ensures,
+      third .is-kind-at3 .ensures,
+      second .is-kind-at2 .ensures,
+      second .before .is-kind-at .ensures,
+    )
 
 pub all-kinds-spec : {M : Type 1} → statement M
 all-kinds-spec =

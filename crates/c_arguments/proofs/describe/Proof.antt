@@ -6,7 +6,9 @@ use Rattle.c_arguments.proofs.describe.Tie as tie
 
 returns : tie.Need-returns
 unfolding describe
-returns c = cc
+returns c =
+    let all = c .before in
+    rw (c .or-zero .ensures, all .all-kinds .ensures, all .before .dimensions-of .ensures)
 
 pub describe-spec : {M : Type 1} → statement M
 describe-spec =

@@ -7,7 +7,21 @@ use Rattle.c_arguments.proofs.dimensions_of.Tie as tie
 
 returns : tie.Need-returns
 unfolding numberedDimensions over
-returns c = cc
+returns c =
+    let fourth = c .before in
+    let third = fourth .before .before in
+    let second = third .before .before in
+    let first = second .before .before in
+    rw (
+      c .of4 .ensures,
+      fourth .number-at4 .ensures,
+      fourth .before .of3 .ensures,
+      third .number-at3 .ensures,
+      third .before .of2 .ensures,
+      second .number-at2 .ensures,
+      second .before .of .ensures,
+      first .number-at .ensures,
+    )
 
 pub dimensions-of-spec : {M : Type 1} → statement M
 dimensions-of-spec =

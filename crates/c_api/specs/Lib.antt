@@ -1,2 +1,0 @@
--- The definitions that the contracts of the exported functions cite.
-pub mod Places
