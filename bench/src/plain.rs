@@ -105,10 +105,6 @@ impl<T: Number> Ends<T> {
         }
     }
 
-    fn inside(&self, outer: &Ends<T>) -> bool {
-        outer.0 <= self.0 && self.1 <= outer.1
-    }
-
     fn meets(&self, other: &Ends<T>) -> bool {
         self.0 <= other.1 && other.0 <= self.1
     }
@@ -209,6 +205,23 @@ impl Kind {
             Kind::Float32 => one::<f32>(row, width, at, to),
             Kind::Float64 => one::<f64>(row, width, at, to),
             Kind::Uint64 => one::<u64>(row, width, at, to),
+        }
+    }
+
+    /// Whether no range that the boxes have at a place has a fault.
+    fn all_sound(self, boxes: &[u8], width: usize, at: usize) -> bool {
+        fn one<T: Number>(boxes: &[u8], width: usize, at: usize) -> bool {
+            boxes.chunks_exact(width).all(|bytes| {
+                let ends = T::ends(&bytes[at..]);
+                T::finite_in_order(ends.0, ends.1)
+            })
+        }
+        match self {
+            Kind::Int32 => one::<i32>(boxes, width, at),
+            Kind::Int64 => one::<i64>(boxes, width, at),
+            Kind::Float32 => one::<f32>(boxes, width, at),
+            Kind::Float64 => one::<f64>(boxes, width, at),
+            Kind::Uint64 => one::<u64>(boxes, width, at),
         }
     }
 
@@ -561,6 +574,20 @@ fn boxes(d: &Description, tiles: usize, domain: &[u8], body: &[u8]) -> Result<(u
     Ok((tiles as u64, shape.fanout as u64, shape.levels as u64))
 }
 
+/// The first fault of leaves that have one.
+#[cold]
+#[inline(never)]
+fn first_fault<T>(d: &Description, leaves: &[u8]) -> Result<T, Refused> {
+    let mut at = 0;
+    for kind in d.kinds().iter().cycle() {
+        if let Some(number) = Range::read(*kind, &leaves[at..]).stored_fault() {
+            return refuse(number, at);
+        }
+        at += kind.range_bytes();
+    }
+    unreachable!("a description has dimensions")
+}
+
 /// Writes the whole tree of so many leaves, and answers its length: the leaves first, and then each level from the one below it.
 #[inline(never)]
 pub fn write_tree(kinds: &[u8], fields: u64, capacity: u64, tiles: u64, fanout: u64, leaves: &[u8], out: &mut [u8]) -> Result<u64, Refused> {
@@ -576,14 +603,12 @@ pub fn write_tree(kinds: &[u8], fields: u64, capacity: u64, tiles: u64, fanout: 
     if leaves.len() != tiles * width {
         return refuse(refusal::BYTES, leaves.len());
     }
-    for (k, leaf) in leaves.chunks_exact(width).enumerate() {
-        let mut at = 0;
-        for kind in d.kinds() {
-            if let Some(number) = Range::read(*kind, &leaf[at..]).stored_fault() {
-                return refuse(number, k * width + at);
-            }
-            at += kind.range_bytes();
+    let mut at = 0;
+    for kind in d.kinds() {
+        if !kind.all_sound(leaves, width, at) {
+            return first_fault(&d, leaves);
         }
+        at += kind.range_bytes();
     }
     let mut counts = vec![tiles];
     while counts[0] > 1 {

@@ -18,7 +18,8 @@ pub extern "C" fn tussockbell_write_tree(
     answer: &mut [u64; 3],
 )
     ensures answer { λ _. ⌜ now (answer .exit) ≡ writtenPlaces (writeAnswer
-        (describe (now (kinds .entry)) fields capacity) tiles fanout (now (leaves .entry)) (length (now (out .entry)))) ⌝ }
+        (describe (now (kinds .entry)) fields capacity) tiles fanout (now (leaves .entry))
+        (length (now (out .entry)))) ⌝ }
     ensures buffer { λ _. ⌜ now (out .exit) ≡ writeBuffer
         (describe (now (kinds .entry)) fields capacity) tiles fanout (now (leaves .entry)) (now (out .entry)) ⌝ }
 {

@@ -1,7 +1,7 @@
 -- What each check that stops the code says is what the definition answers, since the checks before it said nothing; and where
 -- none of them stops it, the body's length.
 -- Assumes nothing.
-use mathlib.Core.Path.{_≡_, refl, sym, ap, _∙_}
+use mathlib.Core.Path.{_≡_, refl, sym, _∙_}
 use mathlib.Core.Bool.{Bool, true, false, not, cond}
 use mathlib.Core.List.{List, [], _∷_, _++_}
 use Prim.Native.Nat.{ℕ, _*_, _≤_, _<_}
@@ -19,7 +19,6 @@ use Rattle.description.specs.Description.{boxBytes}
 use Rattle.tree.specs.Shape.{bodyBytes}
 use Rattle.written.specs.Body.{writtenBox, writtenBody}
 use Rattle.written.specs.Writing.{refusedWriting, lengthTold, sizesRefusal, leafRefusal, writeRefusal, writeAnswer, writeBuffer}
-use Rattle.written.specs.declared.Written.{Written}
 use Rattle.written.proofs.Tree.{Cleared, sizes-clear, write-cleared, written-length}
 use Rattle.writer.specs.Code.Rows.{leavesRefusal, Filling}
 
@@ -118,6 +117,7 @@ module _ (d : Description) (n f : ℕ) (leaves out : List ℕ) (h : writeRefusal
   to-fill = record {
     sizes = told .sizes;
     whole = told .whole;
+    sound = told .sound;
     room = omega (arith, enough, written-length d n f leaves told);
   }
 

@@ -1,5 +1,5 @@
 -- The first best of a row as a loop finds it: with one more box the best so far stays, unless the new one is strictly
--- better (`low-taken`, `high-taken`). And the ends decide it, as far as the row goes (`best-same`).
+-- better (`low-taken`, `high-taken`); and the comparison decides it, as far as the row goes (`best-same`).
 -- Assumes nothing.
 use mathlib.Core.Path.{_≡_, refl, sym, ap, _∙_}
 use mathlib.Core.Bool.{Bool, true, false, cond, true≢false}
@@ -8,15 +8,13 @@ use Prim.Native.Nat.{ℕ, zero, suc, _+_, _*_, _≤_, _<_}
 use native.Mathlib.Nat.{add-zero, add-suc, suc-add}
 use native.Mathlib.Omega.{arith}
 use lib.Dec.{leb, ltb}
-use lib.ListN.{getD}
 use borrow.Author.Tests.{le-leb, leb-true, leb-false, le-ltb, lt-ltb}
 use Rattle.description.specs.declared.Kind.{Kind}
-use Rattle.description.specs.Kinds.{endBytes, key}
-use Rattle.ranges.specs.Ranges.{endsAt, fitted}
-use Rattle.ranges.proofs.Reading.{fitted-same, ends-at-fit}
+use Rattle.description.specs.Kinds.{key}
+use Rattle.ranges.specs.Ranges.{endsAt}
 use Rattle.boxes.specs.Least.{firstBest}
 use Rattle.boxes.proofs.Least.{best-in}
-use Rattle.writer.specs.declared.End.{End}
+use Rattle.writer.specs.Code.Rows.{lowestOf, highestOf}
 
 module _ (asGood : ℕ → ℕ → Bool)
     (any : (a b : ℕ) → asGood a b ≡ false → asGood b a ≡ true)
@@ -55,8 +53,8 @@ best-same g h k (suc more) p =
     )
 
 -- the later one is taken only where it is strictly better
-other-way : (a b x y : ℕ) → cond (leb a b) x y ≡ cond (ltb b a) y x
-other-way a b x y = go (leb a b) refl
+pub other-way : {A : Type 0} (a b : ℕ) (x y : A) → cond (leb a b) x y ≡ cond (ltb b a) y x
+other-way {A} a b x y = go (leb a b) refl
   where
     go : (t : Bool) → leb a b ≡ t → cond t x y ≡ cond (ltb b a) y x
     go true e = rw (le-ltb b a (leb-true a b e))
@@ -68,45 +66,42 @@ any a b h = le-leb b a (omega (arith, leb-false a b h))
 goes-on : (a b c : ℕ) → leb a b ≡ true → leb b c ≡ true → leb a c ≡ true
 goes-on a b c p q = le-leb a c (omega (arith, leb-true a b p, leb-true b c q))
 
--- the best of the boxes from k on, 1 + more of them, as code keeps it, where box c has the key h c
-pub record Best (h : ℕ → ℕ) (asGood : ℕ → ℕ → Bool) (k more : ℕ) (e : End) : Type 0 where
-  pub which : e .of ≡ firstBest asGood k more
-  pub keyed : e .key ≡ h (e .of)
+-- what is kept of the better one of two boxes
+kept : {A : Type 0} (val : ℕ → A) (t : Bool) (x y : ℕ) → cond t (val x) (val y) ≡ val (cond t x y)
+kept val true x y = refl
+kept val false x y = refl
 
-abbrev pub lowGood : (ℕ → ℕ) → ℕ → ℕ → Bool
-lowGood h a b = leb (h a) (h b)
+-- of a row of boxes from k on, 1 + more of them, and the one after it
+module _ (kind : Kind) (rest : List ℕ) (b side k more new : ℕ) (is : new ≡ suc (k + more)) {A : Type 0} (val : ℕ → A) where
+  abbrev lowKey : ℕ → ℕ
+  lowKey c = key kind (endsAt kind rest (c * b + side) .low)
 
-abbrev pub highGood : (ℕ → ℕ) → ℕ → ℕ → Bool
-highGood h a b = leb (h b) (h a)
+  abbrev highKey : ℕ → ℕ
+  highKey c = key kind (endsAt kind rest (c * b + side) .high)
 
-module _ (h : ℕ → ℕ) (k more new x : ℕ) (e r : End) (is : new ≡ suc (k + more)) (keyed : x ≡ h new) where
-  taken : (asGood : ℕ → ℕ → Bool) (t : Bool) → firstBest asGood k (suc more) ≡ cond t new (firstBest asGood k more)
-      → Best h asGood k more e → r ≡ cond t (record { of = new; key = x }) e → Best h asGood k (suc more) r
-  taken asGood true p b q = rw q (record { which = sym p; keyed = keyed })
-  taken asGood false p b q = rw q (record { which = b .which ∙ sym p; keyed = b .keyed })
+  pub low-taken : (best : ℕ) → best ≡ lowestOf kind rest b side k more
+      → cond (ltb (lowKey new) (lowKey best)) (val new) (val best) ≡ val (lowestOf kind rest b side k (suc more))
+  unfolding lowestOf
+  low-taken best e =
+      kept val (ltb (lowKey new) (lowKey best)) new best
+      ∙ ap val
+      (sym (best-more (λ i j. leb (lowKey i) (lowKey j)) (λ i j. any (lowKey i) (lowKey j)) (λ i j l. goes-on (lowKey i) (lowKey j) (lowKey l)) k more
+      ∙ rw (← is, ← e) (other-way (lowKey best) (lowKey new) best new)))
 
-  pub low-taken : Best h (lowGood h) k more e → r ≡ cond (ltb x (e .key)) (record { of = new; key = x }) e → Best h (lowGood h) k (suc more) r
-  low-taken b q =
-      taken (lowGood h) (ltb x (e .key))
-      (best-more (lowGood h) (λ i j. any (h i) (h j)) (λ i j l. goes-on (h i) (h j) (h l)) k more
-      ∙ rw (← is, keyed, b .keyed, b .which) (other-way (h (firstBest (lowGood h) k more)) (h new) _ _))
-      b q
+  pub high-taken : (best : ℕ) → best ≡ highestOf kind rest b side k more
+      → cond (ltb (highKey best) (highKey new)) (val new) (val best) ≡ val (highestOf kind rest b side k (suc more))
+  unfolding highestOf
+  high-taken best e =
+      kept val (ltb (highKey best) (highKey new)) new best
+      ∙ ap val
+      (sym (best-more (λ i j. leb (highKey j) (highKey i)) (λ i j. any (highKey j) (highKey i)) (λ i j l p q. goes-on (highKey l) (highKey j) (highKey i) q p) k more
+      ∙ rw (← is, ← e) (other-way (highKey new) (highKey best) best new)))
 
-  pub high-taken : Best h (highGood h) k more e → r ≡ cond (ltb (e .key) x) (record { of = new; key = x }) e → Best h (highGood h) k (suc more) r
-  high-taken b q =
-      taken (highGood h) (ltb (e .key) x)
-      (best-more (highGood h) (λ i j. any (h j) (h i)) (λ i j l p q. goes-on (h l) (h j) (h i) q p) k more
-      ∙ rw (← is, keyed, b .keyed, b .which) (other-way (h new) (h (firstBest (highGood h) k more)) _ _))
-      b q
+-- of one box alone
+pub one-lowest : (kind : Kind) (rest : List ℕ) (b side k more : ℕ) → more ≡ 0 → lowestOf kind rest b side k more ≡ k
+unfolding lowestOf firstBest
+one-lowest kind rest b side k more z = rw z
 
-pub one-best : (h : ℕ → ℕ) (asGood : ℕ → ℕ → Bool) (k more : ℕ) (e : End) → more ≡ 0 → e .of ≡ k → e .key ≡ h k → Best h asGood k more e
-unfolding firstBest
-one-best h asGood k more e z p q = rw z (record { which = p; keyed = rw p q })
-
--- the key of an end that was read
-module _ (s : List ℕ) (byte : (i : ℕ) → getD s i 0 < 256) (k : Kind) (at : ℕ) where
-  pub low-key : (p x : ℕ) → p ≡ endsAt k s at .low → x ≡ key k (fitted k p) → x ≡ key k (endsAt k s at .low)
-  low-key p x e q = q ∙ rw (e, fitted-same k (endsAt k s at .low) (ends-at-fit s byte k at .0))
-
-  pub high-key : (p x : ℕ) → p ≡ endsAt k s at .high → x ≡ key k (fitted k p) → x ≡ key k (endsAt k s at .high)
-  high-key p x e q = q ∙ rw (e, fitted-same k (endsAt k s at .high) (ends-at-fit s byte k at .1))
+pub one-highest : (kind : Kind) (rest : List ℕ) (b side k more : ℕ) → more ≡ 0 → highestOf kind rest b side k more ≡ k
+unfolding highestOf firstBest
+one-highest kind rest b side k more z = rw z

@@ -8,7 +8,7 @@ use Prim.Native.Nat.{ℕ, zero, suc, _+_, _-_, _*_, _≤_, _<_}
 use native.Mathlib.Nat.{mul-le-mul-right}
 use native.Mathlib.Omega.{arith}
 use lib.Dec.{leb}
-use lib.ListN.{length, take, drop, length-append, length-drop}
+use lib.ListN.{length, drop, length-append, length-drop}
 use lib.Seq.{sets, sets-eq, length-sets, take-append-le, drop-append-le, drop-at, drop-drop}
 use Rattle.answers.specs.Runs.{join}
 use Rattle.answers.proofs.Runs.{over-ext}
@@ -18,18 +18,21 @@ use Rattle.order.proofs.Bytes.{bytes-length}
 use Rattle.description.specs.declared.Dimension.{Dimension}
 use Rattle.description.specs.declared.Description.{Description}
 use Rattle.description.specs.Kinds.{key}
-use Rattle.description.specs.Description.{kindAt, sidesOf, boxBytes}
+use Rattle.description.specs.Description.{kindAt, sideStart, sidesOf, boxBytes}
+use Rattle.description.proofs.Sides.{two-ends, start-up}
 use Rattle.boxes.specs.Boxes.{sideAt}
 use Rattle.boxes.specs.Least.{lowestAt, highestAt, leastSide, around}
+use Rattle.boxes.proofs.Holding.{ranges-numbers}
 use Rattle.boxes.proofs.Least.{best-in}
 use Rattle.tree.specs.Shape.{boxes, children, height, levels, levelStart, bodyBytes}
 use Rattle.tree.proofs.Counts.{first-child}
 use Rattle.tree.proofs.Places.{start-root, start-down, leaves-end, level-inside}
 use Rattle.written.specs.Body.{levelBytes, levelsDown, bodyWith, writtenBox, writtenBody}
-use Rattle.written.proofs.Boxes.{box-sized}
-use Rattle.writer.specs.Code.Rows.{boxIn, parentOf, levelOf, Levels, Filling}
+use Rattle.written.proofs.Boxes.{box-sized, box-numbers}
+use Rattle.writer.specs.Code.Rows.{boxIn, parentOf, levelOf, NoNan, Levels, Filling}
 use Rattle.writer.proofs.Stores.{drop-from, store-both}
 use Rattle.writer.proofs.Choosing.{best-same}
+use Rattle.writer.proofs.Rows.{ends-part}
 
 -- the boxes of a row decide the least box around it
 module _ (kinds : List Dimension) (m : ℕ) (box other : ℕ → List ℕ) (k more : ℕ)
@@ -170,6 +173,19 @@ module _ (d : Description) (n f : ℕ) (leaves first : List ℕ) (z : Filling d 
         before = omega (arith, start-down f n b j h);
         there = omega (arith, level-inside f n b j (omega arith), down .long, z .room);
       }
+
+      -- and no range of the lower one has a NaN
+      pub level-numbers : NoNan d (drop (levelStart f n b j) out) 0 (boxes f n j)
+      unfolding boxBytes
+      level-numbers i m c from to =
+          let rest = drop (levelStart f n b j) out in
+          let kind = kindAt (d .kinds) i in
+          let inside : c < boxes f n j = omega arith in
+          let there : c * b + b ≤ length rest = simp length-drop (omega (arith, levels-there .there, mul-le-mul-right b inside)) in
+          let same = ends-part kind rest (c * b) b (sideStart (d .kinds) i)
+          (omega (arith, start-up (d .kinds) i (sidesOf (d .dimensions)) m, two-ends kind)) there in
+          rw (← same, box-from c inside)
+          (box-numbers d n f leaves hf (z .whole) (λ k l. ranges-numbers (d .kinds) (sidesOf (d .dimensions)) _ _ (z .sound k l)) j c inside i m)
 
       pub above : (new : List ℕ)
           → new ≡ sets out (levelStart f n b (suc j) - 8) (levelOf d f (drop (levelStart f n b j) out) (boxes f n j) (boxes f n (suc j)))

@@ -2,6 +2,7 @@
 pub mod Stores
 pub mod Choosing
 pub mod Sides
+pub mod Floats
 pub mod Rows
 pub mod Levels
 pub mod Checked

@@ -3,11 +3,10 @@
 -- least box around the row (`side-here`).
 -- Assumes nothing.
 use mathlib.Core.Path.{_≡_, refl, sym, ap, _∙_}
-use mathlib.Core.List.{List, _++_}
+use mathlib.Core.List.{List}
 use Prim.Native.Nat.{ℕ, suc, _+_, _-_, _*_, _≤_, _<_, min}
 use native.Mathlib.Nat.{add-assoc, mul-le-mul-right}
 use native.Mathlib.Omega.{arith}
-use lib.Dec.{leb}
 use lib.ListN.{length, take, drop, length-append, length-take, length-drop}
 use lib.Seq.{sets}
 use borrow.Author.Tests.{le-leb}
@@ -20,14 +19,14 @@ use Rattle.order.proofs.Bytes.{bytes-length}
 use Rattle.description.specs.declared.Kind.{Kind}
 use Rattle.description.specs.declared.Dimension.{Dimension}
 use Rattle.description.specs.declared.Description.{Description}
-use Rattle.description.specs.Kinds.{rangeBytes, endBytes, key}
+use Rattle.description.specs.Kinds.{rangeBytes, endBytes}
 use Rattle.description.specs.Description.{kindAt, sideStart, sidesOf, boxBytes}
 use Rattle.description.proofs.Sides.{two-ends, start-up}
 use Rattle.ranges.specs.Ranges.{endsAt}
 use Rattle.boxes.specs.Boxes.{sideAt}
-use Rattle.boxes.specs.Least.{lowestAt, highestAt, leastSide, around}
-use Rattle.boxes.proofs.Least.{best-in, around-length}
-use Rattle.tree.specs.Shape.{up, boxes}
+use Rattle.boxes.specs.Least.{lowestAt, highestAt, leastSide}
+use Rattle.boxes.proofs.Least.{around-length}
+use Rattle.tree.specs.Shape.{boxes}
 use Rattle.tree.proofs.Counts.{first-child}
 use Rattle.writer.specs.Code.Rows.{boxIn, lowestOf, highestOf, sideOf, parentOf, levelOf, Levels}
 use Rattle.writer.proofs.Stores.{drop-past, store-both, store-next}
@@ -127,15 +126,20 @@ module _ (kinds : List Dimension) (m : ℕ) (first : List ℕ) (at start k more 
   abbrev pub sidesTo : ℕ → List ℕ
   sidesTo i = sets first at (join (leastSide kinds m (boxIn below (sideStart kinds m)) k more) 0 i)
 
+  -- the row stands as it stood
+  pub box-past : (i : ℕ) → i < m → (out : List ℕ) → out ≡ sidesTo i → drop start out ≡ drop start first
+  box-past i h out e =
+      ap (drop start) e
+      ∙ drop-past first at (join (leastSide kinds m (boxIn below (sideStart kinds m)) k more) 0 i) start
+      (omega (arith, sides-long kinds m below k more below-there i (omega arith), start-up kinds i m h))
+
   pub box-next : (i : ℕ) → i < m → (out next : List ℕ) → out ≡ sidesTo i
       → next ≡ sets out (at + sideStart kinds i) (sideOf (kindAt kinds i) (drop start out) (sideStart kinds m) (sideStart kinds i) k more)
       → next ≡ sidesTo (i + 1)
   box-next i h out next e p =
       let long = sides-long kinds m below k more below-there i (omega arith) in
-      let past = drop-past first at (join (leastSide kinds m (boxIn below (sideStart kinds m)) k more) 0 i) start
-      (omega (arith, long, start-up kinds i m h)) in
       p
-      ∙ rw (e, past)
+      ∙ rw (box-past i h out e, e)
       (store-next first at _ i (sideStart kinds i) _ long (side-here kinds m below k more below-there i h))
 
 -- the row of parent k is there, where its level is
@@ -173,18 +177,26 @@ module _ (d : Description) (first : List ℕ) (f start parents next count : ℕ)
   parents-long : (k : ℕ) → k ≤ parents → length (join parent 0 k) ≡ k * boxBytes d
   parents-long k h = join-length parent (λ j. boxBytes d) 0 k (λ j from to. parent-long j (omega arith)) ∙ sum-same (boxBytes d) 0 k
 
+  -- the level below stands as it stood
+  pub level-past : (k : ℕ) → k < parents → (out : List ℕ) → out ≡ parentsTo k → drop next out ≡ drop next first
+  level-past k h out e =
+      ap (drop next) e ∙ drop-past first start (join parent 0 k) next (omega (arith, parents-long k (omega arith), parent-before l k h))
+
   pub level-next : (k : ℕ) → k < parents → (out new : List ℕ) → out ≡ parentsTo k
       → new ≡ sets out (start + k * boxBytes d) (parentOf d f (drop next out) count k)
       → new ≡ parentsTo (k + 1)
   level-next k h out new e p =
-      let long = parents-long k (omega arith) in
-      let past = drop-past first start (join parent 0 k) next (omega (arith, long, parent-before l k h)) in
-      p ∙ rw (e, past) (store-next first start parent k (k * boxBytes d) (parent k) long refl)
+      p ∙ rw (level-past k h out e, e) (store-next first start parent k (k * boxBytes d) (parent k) (parents-long k (omega arith)) refl)
 
   pub level-long : length (join parent 0 parents) ≡ parents * boxBytes d
   level-long = parents-long parents (omega arith)
 
   -- and its count before it
+  pub count-past : (mid : List ℕ) → mid ≡ sets first (start - 8) (bytesOf 8 parents) → drop next mid ≡ drop next first
+  count-past mid e =
+      ap (drop next) e
+      ∙ drop-past first (start - 8) (bytesOf 8 parents) next (omega (arith, bytes-length 8 parents, l .counted, l .before))
+
   pub level-stored : (mid new : List ℕ) → mid ≡ sets first (start - 8) (bytesOf 8 parents)
       → new ≡ sets mid start (join (parentOf d f (drop next mid) count) 0 parents)
       → new ≡ sets first (start - 8) (levelOf d f (drop next first) count parents)
@@ -192,9 +204,8 @@ module _ (d : Description) (first : List ℕ) (f start parents next count : ℕ)
   level-stored mid new e p =
       let eight = bytes-length 8 parents in
       let at : start ≡ start - 8 + 8 = omega (arith, l .counted) in
-      let past = drop-past first (start - 8) (bytesOf 8 parents) next (omega (arith, eight, l .counted, l .before)) in
       p
-      ∙ rw (e, past)
+      ∙ rw (count-past mid e, e)
       (ap (λ (x : ℕ). sets (sets first (start - 8) (bytesOf 8 parents)) x (join parent 0 parents)) at
       ∙ store-both first (start - 8) (bytesOf 8 parents) 8 (join parent 0 parents) eight)
 

@@ -1,31 +1,22 @@
--- One side of a row's boxes as it stands in a buffer: the boxes that are chosen are of the row (`lowest-in`, `highest-in`),
--- so their ends are there (`end-there`); and both ends stored one after the other are the side (`side-stored`).
+-- One side of a row's boxes as it stands in a level: the boxes that are chosen are of the row (`lowest-in`, `highest-in`), so
+-- their ends are there, and the bytes of both ends, one after the other, are the side (`side-bytes`).
 -- Assumes nothing.
-use mathlib.Core.Path.{_≡_, refl, sym, ap, _∙_}
-use mathlib.Core.Logic.{_⊎_, inl, inr}
+use mathlib.Core.Path.{_≡_, _∙_}
 use mathlib.Core.List.{List, _++_}
-use Prim.Native.Nat.{ℕ, suc, _+_, _-_, _*_, _/_, _≤_, _<_}
-use native.Mathlib.Nat.{mul-le-mul-right}
+use Prim.Native.Nat.{ℕ, suc, _+_, _*_, _≤_, _<_}
+use native.Mathlib.Nat.{mul-le-mul-left, mul-le-mul-right}
 use native.Mathlib.Omega.{arith}
-use lib.ListN.{length, take, drop}
-use lib.Seq.{sets, drop-drop}
+use lib.ListN.{length, getD, take, drop}
+use borrow.Author.Tests.{le-leb}
+use Rattle.order.specs.Little.{firstOfTwo, secondOfTwo, bytesOf}
 use Rattle.description.specs.declared.Kind.{Kind}
-use Rattle.description.specs.declared.Kind.the-variants.{Int32, Int64, Float32, Float64, Uint64}
 use Rattle.description.specs.Kinds.{endBytes, rangeBytes}
-use Rattle.description.proofs.Sides.{two-ends}
+use Rattle.description.proofs.Sides.{two-ends, range-bytes-most}
+use Rattle.ranges.specs.Ranges.{endsAt, fitted}
+use Rattle.ranges.proofs.Reading.{fitted-same, ends-at-fit}
 use Rattle.boxes.proofs.Least.{best-in}
-use Rattle.writer.specs.Code.Rows.{lowestOf, highestOf, sideOf}
-use Rattle.writer.proofs.Stores.{parts-both}
-
-pub end-widths : (k : Kind) → (endBytes k ≡ 4) ⊎ (endBytes k ≡ 8)
-end-widths Int32 = inl refl
-end-widths Int64 = inr refl
-end-widths Float32 = inl refl
-end-widths Float64 = inr refl
-end-widths Uint64 = inr refl
-
-pub half-range : (k : Kind) → rangeBytes k / 2 ≡ endBytes k
-half-range k = omega (arith, two-ends k)
+use Rattle.writer.specs.Code.Rows.{lowestOf, highestOf, sideOf, SideRow}
+use Rattle.writer.proofs.Stores.{bytes-there}
 
 module _ (kind : Kind) (rest : List ℕ) (b side k more : ℕ) where
   pub lowest-in : (k ≤ lowestOf kind rest b side k more) × (lowestOf kind rest b side k more < k + suc more)
@@ -40,23 +31,53 @@ module _ (kind : Kind) (rest : List ℕ) (b side k more : ℕ) where
 pub box-before : (b first count c : ℕ) → c < first + count → c * b + b ≤ (first + count) * b
 box-before b first count c h = omega (arith, mul-le-mul-right b h)
 
-module _ (kind : Kind) (out : List ℕ) (b start side first more at : ℕ) where
-  abbrev rest : List ℕ
-  rest = drop start out
+-- a side of a row is there
+module _ {kind : Kind} {level : List ℕ} {b side first count : ℕ} (row : SideRow kind level b side first count) where
+  pub box-there : (c : ℕ) → c < first + count → c * b + side + rangeBytes kind ≤ length level
+  box-there c h = omega (arith, row .inside, row .there, box-before b first count c h)
 
+  pub first-there : first * b + side + rangeBytes kind ≤ length level
+  first-there = box-there first (omega (arith, row .some))
+
+  pub row-fits : first + count ≤ length level
+  row-fits =
+      let least : 1 ≤ b = omega (arith, row .inside, range-bytes-most kind) in
+      omega (arith, row .there, mul-le-mul-left (first + count) least)
+
+-- the end that a pattern was read of
+module _ (s : List ℕ) (byte : (i : ℕ) → getD s i 0 < 256) (k : Kind) (at : ℕ) where
+  pub low-fitted : {p x : ℕ} → p ≡ endsAt k s at .low → x ≡ fitted k p → x ≡ endsAt k s at .low
+  low-fitted e q = q ∙ rw (e, fitted-same k (endsAt k s at .low) (ends-at-fit s byte k at .0))
+
+  pub high-fitted : {p x : ℕ} → p ≡ endsAt k s at .high → x ≡ fitted k p → x ≡ endsAt k s at .high
+  high-fitted e q = q ∙ rw (e, fitted-same k (endsAt k s at .high) (ends-at-fit s byte k at .1))
+
+-- both ends that are chosen, as bytes
+module _ (kind : Kind) (rest : List ℕ) (byte : (i : ℕ) → getD rest i 0 < 256) (b side first more : ℕ)
+    (inside : side + rangeBytes kind ≤ b) (there : (first + suc more) * b ≤ length rest) where
   abbrev w : ℕ
   w = endBytes kind
 
-  pub side-stored : start + (lowestOf kind rest b side first more * b + side) + w ≤ length out → at + w ≤ start
-      → sets (sets out at (take w (drop (start + (lowestOf kind rest b side first more * b + side)) out))) (at + w)
-      (take w (drop (start + (highestOf kind rest b side first more * b + side + w))
-      (sets out at (take w (drop (start + (lowestOf kind rest b side first more * b + side)) out)))))
-      ≡ sets out at (sideOf kind rest b side first more)
+  abbrev low : ℕ
+  low = lowestOf kind rest b side first more * b + side
+
+  abbrev high : ℕ
+  high = highestOf kind rest b side first more * b + side
+
+  low-there : low + (w + w) ≤ length rest
+  low-there = omega (arith, two-ends kind, box-before b first (suc more) (lowestOf kind rest b side first more) (lowest-in kind rest b side first more .1))
+
+  high-there : high + (w + w) ≤ length rest
+  high-there = omega (arith, two-ends kind, box-before b first (suc more) (highestOf kind rest b side first more) (highest-in kind rest b side first more .1))
+
+  low-bytes : bytesOf w (endsAt kind rest low .low) ≡ take w (drop low rest)
+  unfolding endsAt firstOfTwo
+  low-bytes = rw (le-leb (low + (w + w)) (length rest) low-there) (bytes-there rest byte low w (omega (arith, low-there)))
+
+  high-bytes : bytesOf w (endsAt kind rest high .high) ≡ take w (drop (high + w) rest)
+  unfolding endsAt secondOfTwo
+  high-bytes = rw (le-leb (high + (w + w)) (length rest) high-there) (bytes-there rest byte (high + w) w (omega (arith, high-there)))
+
+  pub side-bytes : bytesOf w (endsAt kind rest low .low) ++ bytesOf w (endsAt kind rest high .high) ≡ sideOf kind rest b side first more
   unfolding sideOf
-  side-stored there before =
-      parts-both out at w (start + (lowestOf kind rest b side first more * b + side)) w
-      (start + (highestOf kind rest b side first more * b + side + w)) there (omega arith)
-      ∙ rw (
-        drop-drop (lowestOf kind rest b side first more * b + side) start out,
-        drop-drop (highestOf kind rest b side first more * b + side + w) start out,
-      )
+  side-bytes = rw (low-bytes, high-bytes)

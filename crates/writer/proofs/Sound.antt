@@ -1,22 +1,32 @@
 -- Where no leaf's range has a fault in any dimension, the leaves have none: a leaf's range stands in its box as it stands
 -- in the leaves.
 -- Assumes nothing.
-use mathlib.Core.Path.{_≡_, refl, sym, ap, _∙_}
+use mathlib.Core.Path.{_≡_, refl, ap, _∙_}
 use mathlib.Core.List.{List}
 use Prim.Native.Nat.{ℕ, _+_, _*_, _≤_, _<_}
 use native.Mathlib.Nat.{zero-add, mul-le-mul-right}
 use native.Mathlib.Omega.{arith}
 use lib.ListN.{length}
 use Rattle.answers.specs.Refusals.{none}
+use Rattle.answers.specs.declared.Refusal.{Refusal}
 use Rattle.answers.proofs.Checks.{all-clear, each-has}
+use Rattle.description.specs.declared.Kind.{Kind}
 use Rattle.description.specs.declared.Description.{Description}
 use Rattle.description.specs.Description.{kindAt, sideStart, sidesOf, boxBytes}
 use Rattle.description.proofs.Sides.{two-ends, start-up}
+use Rattle.ranges.specs.Ranges.{endsAt, verdictAt, storedRefusal}
+use Rattle.ranges.proofs.Judging.{stored-sound}
 use Rattle.boxes.specs.Boxes.{rangesRefusal}
 use Rattle.boxes.proofs.Moving.{moved-clear, ranges-moved, ranges-none}
 use Rattle.boxes.proofs.Walking.{toldAt}
-use Rattle.writer.specs.Code.Rows.{boxIn, SoundSide, leavesRefusal}
+use Rattle.writer.specs.Code.Rows.{boxIn, SoundEnds, SoundSide, leavesRefusal}
 use Rattle.writer.proofs.Rows.{ends-part}
+
+-- ends that are finite and in order
+pub sound-stored : (kind : Kind) (s : List ℕ) (at place : ℕ) → SoundEnds kind (endsAt kind s at .low) (endsAt kind s at .high)
+    → storedRefusal (verdictAt kind s at) place .number ≡ 0
+unfolding endsAt
+sound-stored kind s at place h = ap (λ (r : Refusal). r .number) (stored-sound kind _ _ _ place (h .0) (h .1) (h .2))
 
 module _ (d : Description) (n : ℕ) (leaves : List ℕ) (whole : length leaves ≡ n * boxBytes d)
     (sound : (i : ℕ) → i < sidesOf (d .dimensions)

@@ -5,18 +5,19 @@
 use mathlib.Core.Path.{_≡_, refl, sym, ap, _∙_}
 use mathlib.Core.Bool.{cond}
 use mathlib.Core.List.{List, [], _∷_, _++_, append-assoc, append-nil}
-use Prim.Native.Nat.{ℕ, zero, suc, _+_, _-_, _*_, _≤_, _<_}
+use Prim.Native.Nat.{ℕ, zero, suc, _+_, _-_, _*_, _/_, _%_, _≤_, _<_}
 use native.Mathlib.Nat.{zero-add}
 use native.Mathlib.Numerals.{add-one}
 use native.Mathlib.Omega.{arith}
 use lib.Dec.{leb}
-use lib.ListN.{length, getD, take, drop, set, length-take, length-drop}
-use lib.Seq.{sets, sets-eq, length-sets, drop-set-lt, drop-cons, drop-at, take-suc, take-add, drop-drop}
+use lib.ListN.{length, getD, take, drop, set, length-append, length-take}
+use lib.Seq.{sets, sets-eq, length-sets, drop-set-lt, drop-cons, drop-at, drop-length, drop-drop, take-suc}
 use borrow.Author.Tests.{le-leb}
-use Rattle.answers.specs.Runs.{over, join}
+use Rattle.answers.specs.Runs.{join}
 use Rattle.answers.proofs.Runs.{over-snoc}
 use Rattle.answers.proofs.Laid.{sets-append}
-use Rattle.order.specs.Little.{bytesOf}
+use Rattle.order.specs.Little.{little, bytesOf}
+use Rattle.order.proofs.Bytes.{bytes-length}
 
 pub drop-past : (l : List ℕ) (at : ℕ) (vs : List ℕ) (c : ℕ) → at + length vs ≤ c → drop c (sets l at vs) ≡ drop c l
 drop-past l at [] c h = refl
@@ -44,32 +45,35 @@ pub copy-next : (l : List ℕ) (at : ℕ) (vs : List ℕ) (i : ℕ) → i < leng
 copy-next l at vs i h =
     store-both l at (take i vs) i (getD vs i 0 ∷ []) (simp length-take (omega arith)) ∙ rw (add-one i, take-suc vs i 0 h)
 
--- two parts of a buffer that are stored before both
-pub parts-both : (l : List ℕ) (at m low p high : ℕ) → low + m ≤ length l → at + m ≤ high
-    → sets (sets l at (take m (drop low l))) (at + m) (take p (drop high (sets l at (take m (drop low l)))))
-    ≡ sets l at (take m (drop low l) ++ take p (drop high l))
-parts-both l at m low p high there before =
-    let long : length (take m (drop low l)) ≡ m = simp (length-take, length-drop) (omega arith) in
-    rw (drop-past l at (take m (drop low l)) high (omega arith)) (store-both l at (take m (drop low l)) m (take p (drop high l)) long)
-
--- one part in two
-pub part-both : (l : List ℕ) (at m p from : ℕ) → from + m ≤ length l → at + m ≤ from + m
-    → sets (sets l at (take m (drop from l))) (at + m) (take p (drop (from + m) (sets l at (take m (drop from l)))))
-    ≡ sets l at (take (m + p) (drop from l))
-part-both l at m p from there before =
-    parts-both l at m from p (from + m) there before ∙ rw (take-add m p (drop from l), drop-drop m from l)
-
-pub four-bytes : (l : List ℕ) (at : ℕ) → at + 4 ≤ length l
-    → take 4 (drop at l) ≡ getD l at 0 ∷ getD l (suc at) 0 ∷ getD l (suc (suc at)) 0 ∷ getD l (suc (suc (suc at))) 0 ∷ []
-four-bytes l at h =
-    rw (
-      drop-cons l at 0 (omega arith),
-      drop-cons l (suc at) 0 (omega arith),
-      drop-cons l (suc (suc at)) 0 (omega arith),
-      drop-cons l (suc (suc (suc at))) 0 (omega arith),
-    )
+-- the bytes of the number that stands at a place are those that stand there
+pub bytes-there : (s : List ℕ) (byte : (i : ℕ) → getD s i 0 < 256) (at m : ℕ) → at + m ≤ length s → bytesOf m (little s at m) ≡ take m (drop at s)
+unfolding bytesOf little
+bytes-there s byte at zero h = refl
+bytes-there s byte at (suc m) h =
+    let first : (getD s at 0 + 256 * little s (at + 1) m) % 256 ≡ getD s at 0 = omega (arith, byte at) in
+    let rest : (getD s at 0 + 256 * little s (at + 1) m) / 256 ≡ little s (at + 1) m = omega (arith, byte at) in
+    rw (first, rest, bytes-there s byte (at + 1) m (omega arith), drop-cons s at 0 (omega arith), add-one at)
 
 -- a number of m bytes, stored where it fits
 pub number-stored : (l out : List ℕ) (at m x : ℕ) → at + m ≤ length l
     → out ≡ cond (leb (at + m) (length l)) (sets l at (bytesOf m x)) l → out ≡ sets l at (bytesOf m x)
 number-stored l out at m x h e = e ∙ rw (le-leb (at + m) (length l) h)
+
+-- two numbers of m bytes each, which fill the buffer
+pub pair-stored : (l mid new : List ℕ) (m x y : ℕ) → length l ≡ m + m
+    → mid ≡ cond (leb (0 + m) (length l)) (sets l 0 (bytesOf m x)) l → new ≡ cond (leb (m + m) (length mid)) (sets mid m (bytesOf m y)) mid
+    → new ≡ bytesOf m x ++ bytesOf m y
+pair-stored l mid new m x y long p q =
+    let first = number-stored l mid 0 m x (omega arith) p in
+    let same : length mid ≡ length l = ap length first ∙ simp length-sets in
+    let both : length (bytesOf m x ++ bytesOf m y) ≡ length l = simp length-append (omega (arith, bytes-length m x, bytes-length m y)) in
+    number-stored mid new m m y (omega arith) q
+    ∙ rw first
+    (ap (λ (k : ℕ). sets (sets l 0 (bytesOf m x)) k (bytesOf m y)) (sym (zero-add m))
+    ∙ store-both l 0 (bytesOf m x) m (bytesOf m y) (bytes-length m x)
+    ∙ sets-eq (bytesOf m x ++ bytesOf m y) l 0 (omega (arith, both))
+    ∙ rw (zero-add, both, drop-length, append-nil))
+
+-- a part of k bytes that was replaced by as many
+pub part-stored : (l : List ℕ) (at k : ℕ) (vs : List ℕ) → length vs ≡ k → at + k ≤ length l → take at l ++ (vs ++ drop k (drop at l)) ≡ sets l at vs
+part-stored l at k vs long h = rw (drop-drop k at l, sets-eq vs l at (omega arith), append-assoc, long)

@@ -3,28 +3,32 @@
 use answers::Refusal;
 use description::Description;
 use description::Kind;
-use ranges::Range;
+use ranges::Patterns;
 use written::Written;
 ghost use mathlib.Core.Path.{_≡_};
-ghost use mathlib.Core.Logic.{_⊎_};
-ghost use mathlib.Core.Bool.{true, cond};
+ghost use mathlib.Core.Bool.{true, false, cond};
 ghost use mathlib.Core.List.{_++_};
 ghost use Rattle.answers.specs.Refusals.{none};
 ghost use Rattle.answers.specs.Runs.{join};
-ghost use Prim.Native.Nat.{_+_, _-_, _*_, _≤_, _<_};
+ghost use Prim.Native.Nat.{_+_, _-_, _*_, _%_, _^_, _≤_, _<_};
 ghost use lib.Dec.{ltb};
-ghost use lib.ListN.{length, getD, take, drop};
+ghost use lib.Ieee.{binary32, binary64, nanBits, lt, le};
+ghost use lib.ListN.{length, getD, drop};
 ghost use lib.Seq.{sets};
+ghost use mir.Syntax.{w32};
+ghost use Rattle.order.specs.Key.{signedKey, infinite};
+ghost use Rattle.order.specs.Little.{bytesOf};
 ghost use Rattle.description.specs.Limits.{Sizes};
-ghost use Rattle.description.specs.Kinds.{endBytes, rangeBytes};
+ghost use Rattle.description.specs.Kinds.{endBytes, rangeBytes, key};
 ghost use Rattle.description.specs.Description.{sidesOf, boxBytes};
+ghost use Rattle.ranges.specs.Ranges.{endsAt};
 ghost use Rattle.boxes.specs.Least.{around};
 ghost use Rattle.tree.specs.Shape.{mostBoxBytes, bodyBytes};
 ghost use Rattle.written.specs.Body.{writtenBody};
 ghost use Rattle.written.specs.Writing.{refusedWriting, lengthTold, sizesRefusal, lengthAnswer};
 ghost use Rattle.written.specs.Writing.{writeAnswer, writeBuffer};
-ghost use Rattle.writer.specs.Code.Rows.{boxIn, lowestOf, highestOf, sideOf, parentOf, levelOf, leavesRefusal};
-ghost use Rattle.writer.specs.Code.Rows.{SoundSide, Row, Levels, Filling};
+ghost use Rattle.writer.specs.Code.Rows.{boxIn, sideOf, parentOf, levelOf, leavesRefusal, LeastEnds};
+ghost use Rattle.writer.specs.Code.Rows.{SoundEnds, SoundSide, NoNan, SideRow, Row, Levels, Filling};
 
 // The whole body goes to the start of the buffer, if it has the room.
 pub fn write(
@@ -34,8 +38,10 @@ pub fn write(
     leaves: &[u8],
     out: &mut [u8],
 ) -> Written
-    ensures answer { λ r. ⌜ r ≡ writeAnswer description tiles fanout (now (leaves .entry)) (length (now (out .entry))) ⌝ }
-    ensures buffer { λ _. ⌜ now (out .exit) ≡ writeBuffer description tiles fanout (now (leaves .entry)) (now (out .entry)) ⌝ }
+    ensures answer { λ r. ⌜ r ≡ writeAnswer description tiles fanout (now (leaves .entry))
+        (length (now (out .entry))) ⌝ }
+    ensures buffer { λ _. ⌜ now (out .exit) ≡ writeBuffer description tiles fanout (now (leaves .entry))
+        (now (out .entry)) ⌝ }
 {
     let told = check(description, tiles, fanout, leaves, out.len());
     if told.number != 0 {
@@ -130,7 +136,7 @@ fn all_sound(description: Description, tiles: usize, leaves: &[u8]) -> bool
 
 // The same of one dimension. With its kind known where the loop stands, the loop asks for it no more.
 fn side_sound(kind: Kind, box_bytes: usize, side: usize, tiles: usize, leaves: &[u8]) -> bool
-    requires { ⌜ side < «box_bytes» ⌝ }
+    requires { ⌜ side + rangeBytes kind ≤ «box_bytes» ⌝ }
     requires { ⌜ length (now leaves) ≡ tiles * «box_bytes» ⌝ }
     ensures { λ r. ⌜ (r ≡ true → SoundSide kind (now (leaves .entry)) «box_bytes» side tiles) ⌝ }
 {
@@ -144,20 +150,71 @@ fn side_sound(kind: Kind, box_bytes: usize, side: usize, tiles: usize, leaves: &
 }
 
 fn sound_in(kind: Kind, box_bytes: usize, side: usize, tiles: usize, leaves: &[u8]) -> bool
-    requires { ⌜ side < «box_bytes» ⌝ }
+    requires { ⌜ side + rangeBytes kind ≤ «box_bytes» ⌝ }
     requires { ⌜ length (now leaves) ≡ tiles * «box_bytes» ⌝ }
     ensures { λ r. ⌜ (r ≡ true → SoundSide kind (now (leaves .entry)) «box_bytes» side tiles) ⌝ }
 {
     let mut k: usize = 0;
     while k < tiles {
-        let at = k * box_bytes + side;
-        let told = Range::read(leaves, at, kind).verdict().stored(side as u64);
-        if told.number != 0 {
+        if !sound_at(leaves, k * box_bytes + side, kind) {
             return false;
         }
         k += 1;
     }
     true
+}
+
+// The same of one range. A finite float is no NaN, so its value is at hand.
+fn sound_at(bytes: &[u8], at: usize, kind: Kind) -> bool
+    requires { ⌜ at + rangeBytes kind ≤ length (now bytes) ⌝ }
+    ensures { λ r. ⌜ (r ≡ true → SoundEnds kind (endsAt kind (now (bytes .entry)) at .low)
+        (endsAt kind (now (bytes .entry)) at .high)) ⌝ }
+{
+    let ends = ends_at(bytes, at, kind);
+    match kind {
+        Kind::Float32 => sound_f32(low_four(ends.low), low_four(ends.high)),
+        Kind::Float64 => sound_f64(ends.low, ends.high),
+        _ => ranges::key_of(kind, ends.low) <= ranges::key_of(kind, ends.high),
+    }
+}
+
+fn sound_f32(low: u32, high: u32) -> bool
+    ensures { λ r. ⌜ (r ≡ true → SoundEnds Kind.Float32 low high) ⌝ }
+{
+    if !finite_f32(low) {
+        return false;
+    }
+    if !finite_f32(high) {
+        return false;
+    }
+    order::f32_at_most(f32::from_bits(low), f32::from_bits(high))
+}
+
+// The same of 64 bits.
+fn sound_f64(low: u64, high: u64) -> bool
+    ensures { λ r. ⌜ (r ≡ true → SoundEnds Kind.Float64 low high) ⌝ }
+{
+    if !finite_f64(low) {
+        return false;
+    }
+    if !finite_f64(high) {
+        return false;
+    }
+    order::f64_at_most(f64::from_bits(low), f64::from_bits(high))
+}
+
+// Neither a NaN's pattern nor an infinity's: doubled, the pattern has lost its sign, and is below the infinity's.
+fn finite_f32(p: u32) -> bool
+    ensures { λ r. ⌜ (r ≡ true → (nanBits binary32 p ≡ false) × (infinite binary32 p ≡ false)) ⌝ }
+{
+    2 * (p % 0x8000_0000) < 0xff00_0000
+}
+
+// The same of 64 bits.
+fn finite_f64(p: u64) -> bool
+    ensures { λ r. ⌜ (r ≡ true → (nanBits binary64 p ≡ false) × (infinite binary64 p ≡ false)) ⌝ }
+{
+    2 * (p % 0x8000_0000_0000_0000) < 0xffe0_0000_0000_0000
 }
 
 // The first fault of the leaves.
@@ -247,8 +304,10 @@ fn copy(out: &mut [u8], at: usize, bytes: &[u8])
 // The level at distance j: its count, and each of its boxes, made of a row of the level below.
 fn put_level(out: &mut [u8], description: Description, fanout: usize, table: &[usize; 50], j: usize)
     requires { ⌜ (0 < j) × (j < 25) ⌝ }
-    requires { ⌜ Levels (now out) (boxBytes description) fanout (getD (now table) (2 * j) 0) (getD (now table) (2 * j + 1) 0)
-        (getD (now table) (2 * (j - 1)) 0) (getD (now table) (2 * (j - 1) + 1) 0) ⌝ }
+    requires { ⌜ Levels (now out) (boxBytes description) fanout (getD (now table) (2 * j) 0)
+        (getD (now table) (2 * j + 1) 0) (getD (now table) (2 * (j - 1)) 0) (getD (now table) (2 * (j - 1) + 1) 0) ⌝ }
+    requires { ⌜ NoNan description (drop (getD (now table) (2 * (j - 1)) 0) (now out)) 0
+        (getD (now table) (2 * (j - 1) + 1) 0) ⌝ }
     ensures { λ _. ⌜ now (out .exit) ≡ sets (now (out .entry)) (getD (now (table .entry)) (2 * j) 0 - 8)
         (levelOf description fanout (drop (getD (now (table .entry)) (2 * (j - 1)) 0) (now (out .entry)))
         (getD (now (table .entry)) (2 * (j - 1) + 1) 0) (getD (now (table .entry)) (2 * j + 1) 0)) ⌝ }
@@ -273,6 +332,7 @@ fn put_rows(
     count: usize,
 )
     requires { ⌜ Levels (now out) (boxBytes description) fanout start parents next count ⌝ }
+    requires { ⌜ NoNan description (drop next (now out)) 0 count ⌝ }
     ensures { λ _. ⌜ now (out .exit) ≡ sets (now (out .entry)) start
         (join (parentOf description fanout (drop next (now (out .entry))) count) 0 parents) ⌝ }
 {
@@ -299,7 +359,9 @@ fn put_box(
 )
     requires { ⌜ «box_bytes» ≡ boxBytes description ⌝ }
     requires { ⌜ Row (now out) «box_bytes» start first count at ⌝ }
-    ensures { λ _. ⌜ now (out .exit) ≡ sets (now (out .entry)) at (around (description .kinds) (sidesOf (description .dimensions))
+    requires { ⌜ NoNan description (drop start (now out)) first count ⌝ }
+    ensures { λ _. ⌜ now (out .exit) ≡ sets (now (out .entry)) at
+        (around (description .kinds) (sidesOf (description .dimensions))
         (boxIn (drop start (now (out .entry))) «box_bytes») first (count - 1)) ⌝ }
 {
     let kinds = description.kinds;
@@ -326,189 +388,251 @@ fn put_side(
     count: usize,
     at: usize,
 )
-    requires { ⌜ 0 < count ⌝ }
-    requires { ⌜ side + rangeBytes kind ≤ «box_bytes» ⌝ }
-    requires { ⌜ start + (first + count) * «box_bytes» ≤ length (now out) ⌝ }
+    requires { ⌜ SideRow kind (drop start (now out)) «box_bytes» side first count ⌝ }
     requires { ⌜ at + rangeBytes kind ≤ start ⌝ }
     ensures { λ _. ⌜ now (out .exit) ≡ sets (now (out .entry)) at
         (sideOf kind (drop start (now (out .entry))) «box_bytes» side first (count - 1)) ⌝ }
 {
-    let chosen = choose(&out[start..], kind, box_bytes, side, first, count);
-    let bytes = kind.range_bytes() / 2;
-    let low = start + (chosen.low * box_bytes + side);
-    let high = start + (chosen.high * box_bytes + side + bytes);
-    copy_end(out, low, at, bytes);
-    copy_end(out, high, at + bytes, bytes);
+    let ends = least_side(&out[start..], kind, box_bytes, side, first, count);
+    put_ends(out, at, kind, ends);
 }
 
-// Two boxes, by their numbers.
-struct Chosen {
-    low: usize,
-    high: usize,
-}
-
-// The first box of a row that has the lowest minimum, and the first that has the highest maximum. A function for each
-// kind, so that the loop asks for it no more: one call for all of them would be compiled to one loop.
-fn choose(
+// Of a row the lowest minimum and the highest maximum; between equal ends, the first such box's. Floats, which are no
+// NaNs, are compared by their values, and any other ends by their keys.
+fn least_side(
     level: &[u8],
     kind: Kind,
     box_bytes: usize,
     side: usize,
     first: usize,
     count: usize,
-) -> Chosen
-    requires { ⌜ 0 < count ⌝ }
-    requires { ⌜ side < «box_bytes» ⌝ }
-    requires { ⌜ (first + count) * «box_bytes» ≤ length (now level) ⌝ }
-    ensures { λ r. ⌜ r .low ≡ lowestOf kind (now (level .entry)) «box_bytes» side first (count - 1) ⌝ }
-    ensures { λ r. ⌜ r .high ≡ highestOf kind (now (level .entry)) «box_bytes» side first (count - 1) ⌝ }
+) -> Patterns
+    requires { ⌜ SideRow kind (now level) «box_bytes» side first count ⌝ }
+    ensures { λ r. ⌜ LeastEnds kind (now (level .entry)) «box_bytes» side first (count - 1) r ⌝ }
 {
     match kind {
-        Kind::Int32 => choose_int32(level, box_bytes, side, first, count),
-        Kind::Int64 => choose_int64(level, box_bytes, side, first, count),
-        Kind::Float32 => choose_float32(level, box_bytes, side, first, count),
-        Kind::Float64 => choose_float64(level, box_bytes, side, first, count),
-        Kind::Uint64 => choose_uint64(level, box_bytes, side, first, count),
+        Kind::Int32 => least_by_key(level, Kind::Int32, box_bytes, side, first, count),
+        Kind::Int64 => least_by_key(level, Kind::Int64, box_bytes, side, first, count),
+        Kind::Float32 => least_f32(level, box_bytes, side, first, count),
+        Kind::Float64 => least_f64(level, box_bytes, side, first, count),
+        Kind::Uint64 => least_by_key(level, Kind::Uint64, box_bytes, side, first, count),
     }
 }
 
-fn choose_int32(level: &[u8], box_bytes: usize, side: usize, first: usize, count: usize) -> Chosen
-    requires { ⌜ 0 < count ⌝ }
-    requires { ⌜ side < «box_bytes» ⌝ }
-    requires { ⌜ (first + count) * «box_bytes» ≤ length (now level) ⌝ }
-    ensures { λ r. ⌜ r .low ≡ lowestOf Kind.Int32 (now (level .entry)) «box_bytes» side first (count - 1) ⌝ }
-    ensures { λ r. ⌜ r .high ≡ highestOf Kind.Int32 (now (level .entry)) «box_bytes» side first (count - 1) ⌝ }
-{
-    choose_in(level, Kind::Int32, box_bytes, side, first, count)
-}
-
-fn choose_int64(level: &[u8], box_bytes: usize, side: usize, first: usize, count: usize) -> Chosen
-    requires { ⌜ 0 < count ⌝ }
-    requires { ⌜ side < «box_bytes» ⌝ }
-    requires { ⌜ (first + count) * «box_bytes» ≤ length (now level) ⌝ }
-    ensures { λ r. ⌜ r .low ≡ lowestOf Kind.Int64 (now (level .entry)) «box_bytes» side first (count - 1) ⌝ }
-    ensures { λ r. ⌜ r .high ≡ highestOf Kind.Int64 (now (level .entry)) «box_bytes» side first (count - 1) ⌝ }
-{
-    choose_in(level, Kind::Int64, box_bytes, side, first, count)
-}
-
-fn choose_float32(level: &[u8], box_bytes: usize, side: usize, first: usize, count: usize) -> Chosen
-    requires { ⌜ 0 < count ⌝ }
-    requires { ⌜ side < «box_bytes» ⌝ }
-    requires { ⌜ (first + count) * «box_bytes» ≤ length (now level) ⌝ }
-    ensures { λ r. ⌜ r .low ≡ lowestOf Kind.Float32 (now (level .entry)) «box_bytes» side first (count - 1) ⌝ }
-    ensures { λ r. ⌜ r .high ≡ highestOf Kind.Float32 (now (level .entry)) «box_bytes» side first (count - 1) ⌝ }
-{
-    choose_in(level, Kind::Float32, box_bytes, side, first, count)
-}
-
-fn choose_float64(level: &[u8], box_bytes: usize, side: usize, first: usize, count: usize) -> Chosen
-    requires { ⌜ 0 < count ⌝ }
-    requires { ⌜ side < «box_bytes» ⌝ }
-    requires { ⌜ (first + count) * «box_bytes» ≤ length (now level) ⌝ }
-    ensures { λ r. ⌜ r .low ≡ lowestOf Kind.Float64 (now (level .entry)) «box_bytes» side first (count - 1) ⌝ }
-    ensures { λ r. ⌜ r .high ≡ highestOf Kind.Float64 (now (level .entry)) «box_bytes» side first (count - 1) ⌝ }
-{
-    choose_in(level, Kind::Float64, box_bytes, side, first, count)
-}
-
-fn choose_uint64(level: &[u8], box_bytes: usize, side: usize, first: usize, count: usize) -> Chosen
-    requires { ⌜ 0 < count ⌝ }
-    requires { ⌜ side < «box_bytes» ⌝ }
-    requires { ⌜ (first + count) * «box_bytes» ≤ length (now level) ⌝ }
-    ensures { λ r. ⌜ r .low ≡ lowestOf Kind.Uint64 (now (level .entry)) «box_bytes» side first (count - 1) ⌝ }
-    ensures { λ r. ⌜ r .high ≡ highestOf Kind.Uint64 (now (level .entry)) «box_bytes» side first (count - 1) ⌝ }
-{
-    choose_in(level, Kind::Uint64, box_bytes, side, first, count)
-}
-
-fn choose_in(
+fn least_by_key(
     level: &[u8],
     kind: Kind,
     box_bytes: usize,
     side: usize,
     first: usize,
     count: usize,
-) -> Chosen
-    requires { ⌜ 0 < count ⌝ }
-    requires { ⌜ side < «box_bytes» ⌝ }
-    requires { ⌜ (first + count) * «box_bytes» ≤ length (now level) ⌝ }
-    ensures { λ r. ⌜ r .low ≡ lowestOf kind (now (level .entry)) «box_bytes» side first (count - 1) ⌝ }
-    ensures { λ r. ⌜ r .high ≡ highestOf kind (now (level .entry)) «box_bytes» side first (count - 1) ⌝ }
+) -> Patterns
+    requires { ⌜ SideRow kind (now level) «box_bytes» side first count ⌝ }
+    ensures { λ r. ⌜ LeastEnds kind (now (level .entry)) «box_bytes» side first (count - 1) r ⌝ }
 {
     let mut at = first * box_bytes + side;
-    let ends = ranges::patterns_at(level, at, kind);
-    let mut low = End {
-        of: first,
-        key: ranges::key_of(kind, ends.low),
-    };
-    let mut high = End {
-        of: first,
-        key: ranges::key_of(kind, ends.high),
-    };
+    let ends = ends_at(level, at, kind);
+    let mut low = ends.low;
+    let mut high = ends.high;
     let last = first + count;
     let mut k = first + 1;
     while k < last {
         at += box_bytes;
-        let next = ranges::patterns_at(level, at, kind);
-        low = lower(low, k, ranges::key_of(kind, next.low));
-        high = higher(high, k, ranges::key_of(kind, next.high));
+        let next = ends_at(level, at, kind);
+        low = lower(kind, low, next.low);
+        high = higher(kind, high, next.high);
         k += 1;
     }
-    Chosen {
-        low: low.of,
-        high: high.of,
+    Patterns { low, high }
+}
+
+fn least_f32(level: &[u8], box_bytes: usize, side: usize, first: usize, count: usize) -> Patterns
+    requires { ⌜ SideRow Kind.Float32 (now level) «box_bytes» side first count ⌝ }
+    ensures { λ r. ⌜ LeastEnds Kind.Float32 (now (level .entry)) «box_bytes» side first (count - 1) r ⌝ }
+{
+    let mut at = first * box_bytes + side;
+    let ends = ends_at(level, at, Kind::Float32);
+    let mut low = f32::from_bits(low_four(ends.low));
+    let mut high = f32::from_bits(low_four(ends.high));
+    let last = first + count;
+    let mut k = first + 1;
+    while k < last {
+        at += box_bytes;
+        let next = ends_at(level, at, Kind::Float32);
+        low = lower_f32(low, f32::from_bits(low_four(next.low)));
+        high = higher_f32(high, f32::from_bits(low_four(next.high)));
+        k += 1;
+    }
+    Patterns {
+        low: f32::to_bits(low) as u64,
+        high: f32::to_bits(high) as u64,
     }
 }
 
-// An end that is the best so far: which box's it is, and its key.
-struct End {
-    of: usize,
-    key: u64,
+// The same of 64 bits.
+fn least_f64(level: &[u8], box_bytes: usize, side: usize, first: usize, count: usize) -> Patterns
+    requires { ⌜ SideRow Kind.Float64 (now level) «box_bytes» side first count ⌝ }
+    ensures { λ r. ⌜ LeastEnds Kind.Float64 (now (level .entry)) «box_bytes» side first (count - 1) r ⌝ }
+{
+    let mut at = first * box_bytes + side;
+    let ends = ends_at(level, at, Kind::Float64);
+    let mut low = f64::from_bits(ends.low);
+    let mut high = f64::from_bits(ends.high);
+    let last = first + count;
+    let mut k = first + 1;
+    while k < last {
+        at += box_bytes;
+        let next = ends_at(level, at, Kind::Float64);
+        low = lower_f64(low, f64::from_bits(next.low));
+        high = higher_f64(high, f64::from_bits(next.high));
+        k += 1;
+    }
+    Patterns {
+        low: f64::to_bits(low),
+        high: f64::to_bits(high),
+    }
 }
 
-// The end of one more box is taken where it is strictly lower.
-fn lower(best: End, of: usize, key: u64) -> End
-    ensures { λ r. ⌜ r ≡ cond (ltb key (best .key)) (record { of = of; key = key }) best ⌝ }
+// The end of one more box is taken where it is strictly lower: of int32 ends in four bytes, as the compiler keeps them.
+fn lower(kind: Kind, best: u64, next: u64) -> u64
+    requires { ⌜ (best < 256 ^ endBytes kind) × (next < 256 ^ endBytes kind) ⌝ }
+    ensures { λ r. ⌜ r ≡ cond (ltb (key kind next) (key kind best)) next best ⌝ }
 {
-    if key < best.key {
-        return End { of, key };
+    if let Kind::Int32 = kind {
+        return lower_i32(low_four(best), low_four(next)) as u64;
+    }
+    if ranges::key_of(kind, next) < ranges::key_of(kind, best) {
+        return next;
     }
     best
 }
 
 // Where it is strictly higher.
-fn higher(best: End, of: usize, key: u64) -> End
-    ensures { λ r. ⌜ r ≡ cond (ltb (best .key) key) (record { of = of; key = key }) best ⌝ }
+fn higher(kind: Kind, best: u64, next: u64) -> u64
+    requires { ⌜ (best < 256 ^ endBytes kind) × (next < 256 ^ endBytes kind) ⌝ }
+    ensures { λ r. ⌜ r ≡ cond (ltb (key kind best) (key kind next)) next best ⌝ }
 {
-    if best.key < key {
-        return End { of, key };
+    if let Kind::Int32 = kind {
+        return higher_i32(low_four(best), low_four(next)) as u64;
+    }
+    if ranges::key_of(kind, best) < ranges::key_of(kind, next) {
+        return next;
     }
     best
 }
 
-// The bytes of an end, from one place to another before it.
-fn copy_end(out: &mut [u8], from: usize, to: usize, bytes: usize)
-    requires { ⌜ (bytes ≡ 4) ⊎ (bytes ≡ 8) ⌝ }
-    requires { ⌜ (to + bytes ≤ from) × (from + bytes ≤ length (now out)) ⌝ }
-    ensures { λ _. ⌜ now (out .exit) ≡ sets (now (out .entry)) to (take bytes (drop from (now (out .entry)))) ⌝ }
+fn lower_i32(best: u32, next: u32) -> u32
+    ensures { λ r. ⌜ r ≡ cond (ltb (signedKey w32 next) (signedKey w32 best)) next best ⌝ }
 {
-    copy_four(out, from, to);
-    if 4 < bytes {
-        copy_four(out, from + 4, to + 4);
+    if order::i32_key(next) < order::i32_key(best) {
+        return next;
+    }
+    best
+}
+
+fn higher_i32(best: u32, next: u32) -> u32
+    ensures { λ r. ⌜ r ≡ cond (ltb (signedKey w32 best) (signedKey w32 next)) next best ⌝ }
+{
+    if order::i32_key(best) < order::i32_key(next) {
+        return next;
+    }
+    best
+}
+
+fn lower_f32(best: f32, next: f32) -> f32
+    ensures { λ r. ⌜ r ≡ cond (lt next best) next best ⌝ }
+{
+    if next < best {
+        return next;
+    }
+    best
+}
+
+// By the other comparison: with the same one in both, the compiler makes a vector of a range's ends, which is slower.
+fn higher_f32(best: f32, next: f32) -> f32
+    ensures { λ r. ⌜ r ≡ cond (le next best) best next ⌝ }
+{
+    if next <= best {
+        return best;
+    }
+    next
+}
+
+fn lower_f64(best: f64, next: f64) -> f64
+    ensures { λ r. ⌜ r ≡ cond (lt next best) next best ⌝ }
+{
+    if next < best {
+        return next;
+    }
+    best
+}
+
+fn higher_f64(best: f64, next: f64) -> f64
+    ensures { λ r. ⌜ r ≡ cond (le next best) best next ⌝ }
+{
+    if next <= best {
+        return best;
+    }
+    next
+}
+
+// The ends of a range that is wholly there. They are read from a part of known length, so that the test of that length
+// is none in the compiled code.
+fn ends_at(bytes: &[u8], at: usize, kind: Kind) -> Patterns
+    requires { ⌜ at + rangeBytes kind ≤ length (now bytes) ⌝ }
+    ensures { λ r. ⌜ r .low ≡ endsAt kind (now (bytes .entry)) at .low ⌝ }
+    ensures { λ r. ⌜ r .high ≡ endsAt kind (now (bytes .entry)) at .high ⌝ }
+{
+    match kind {
+        Kind::Int32 | Kind::Float32 => ranges::patterns_at(&bytes[at..at + 8], 0, kind),
+        Kind::Int64 | Kind::Float64 | Kind::Uint64 => ranges::patterns_at(
+            &bytes[at..at + 16],
+            0,
+            kind,
+        ),
     }
 }
 
-fn copy_four(out: &mut [u8], from: usize, to: usize)
-    requires { ⌜ (to + 4 ≤ from) × (from + 4 ≤ length (now out)) ⌝ }
-    ensures { λ _. ⌜ now (out .exit) ≡ sets (now (out .entry)) to (take 4 (drop from (now (out .entry)))) ⌝ }
+// The bytes of both ends go to a place, each end in its kind's width.
+fn put_ends(out: &mut [u8], at: usize, kind: Kind, ends: Patterns)
+    requires { ⌜ (ends .low < 256 ^ endBytes kind) × (ends .high < 256 ^ endBytes kind) ⌝ }
+    requires { ⌜ at + rangeBytes kind ≤ length (now out) ⌝ }
+    ensures { λ _. ⌜ now (out .exit) ≡ sets (now (out .entry)) at
+        (bytesOf (endBytes kind) (ends .low) ++ bytesOf (endBytes kind) (ends .high)) ⌝ }
 {
-    let a = out[from];
-    let b = out[from + 1];
-    let c = out[from + 2];
-    let d = out[from + 3];
-    out[to] = a;
-    out[to + 1] = b;
-    out[to + 2] = c;
-    out[to + 3] = d;
+    match kind {
+        Kind::Int32 | Kind::Float32 => {
+            put_pair32(
+                &mut out[at..at + 8],
+                low_four(ends.low),
+                low_four(ends.high),
+            );
+        }
+        Kind::Int64 | Kind::Float64 | Kind::Uint64 => {
+            put_pair64(&mut out[at..at + 16], ends.low, ends.high);
+        }
+    }
+}
+
+fn put_pair32(out: &mut [u8], low: u32, high: u32)
+    requires { ⌜ length (now out) ≡ 8 ⌝ }
+    ensures { λ _. ⌜ now (out .exit) ≡ bytesOf 4 low ++ bytesOf 4 high ⌝ }
+{
+    order::put_u32(out, 0, low);
+    order::put_u32(out, 4, high);
+}
+
+fn put_pair64(out: &mut [u8], low: u64, high: u64)
+    requires { ⌜ length (now out) ≡ 16 ⌝ }
+    ensures { λ _. ⌜ now (out .exit) ≡ bytesOf 8 low ++ bytesOf 8 high ⌝ }
+{
+    order::put_u64(out, 0, low);
+    order::put_u64(out, 8, high);
+}
+
+// The lowest four bytes of a number.
+fn low_four(p: u64) -> u32
+    ensures { λ r. ⌜ r ≡ p % 256 ^ 4 ⌝ }
+{
+    (p % 0x1_0000_0000) as u32
 }

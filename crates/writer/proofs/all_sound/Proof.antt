@@ -1,16 +1,16 @@
 -- `writer::all_sound` meets its contract. The invariant: the place is where dimension i starts, and in the dimensions before
 -- it no range has a fault. The measure is the number of dimensions that are left.
 -- Assumes nothing.
-use Prim.Native.Nat.{ℕ, suc, _+_, _-_, _*_, _≤_, _<_}
-use mathlib.Core.Path.{_≡_, refl, sym, ap, _∙_}
-use mathlib.Core.Bool.{true, true≢false}
+use Prim.Native.Nat.{ℕ, _+_, _-_, _≤_, _<_}
+use mathlib.Core.Path.{_≡_, sym}
+use mathlib.Core.Bool.{true≢false}
 use native.Mathlib.Omega.{arith}
-use lib.ListN.{length}
 use borrow.Author.Count.{below-more}
 use borrow.Author.Needs.{needs}
 use borrow.Author.Tests.{not-false}
-use Rattle.description.specs.Description.{kindAt, sideStart, sidesOf, boxBytes}
-use Rattle.description.proofs.Sides.{start-first, start-up, range-bytes-most}
+use Rattle.description.specs.Kinds.{rangeBytes}
+use Rattle.description.specs.Description.{kindAt, sideStart, boxBytes}
+use Rattle.description.proofs.Sides.{start-first, start-up}
 use Rattle.boxes.proofs.Walking.{next-place, place-fits}
 use Rattle.writer.specs.Code.Rows.{SoundSide}
 use Rattle.writer.proofs.Sound.{leaves-sound}
@@ -32,15 +32,17 @@ loop-holds c = (omega arith, sym (start-first (c .before .before .before .before
 array-copy-out-d : tie.Need-array-copy-out-d Inv-loop μ-loop
 array-copy-out-d c = omega (arith, c .loop-test, c .before .before .sides-of .ensures)
 
--- dimension i starts in the box
-inside : (c : tie.In-loop Inv-loop μ-loop) → c .before .loop .side < c .before .before .before .box-bytes .result
+-- dimension i ends in the box
+inside : (c : tie.In-loop Inv-loop μ-loop)
+    → (let d = c .before .before .before .before .before .before .args .description in
+    c .before .loop .side + rangeBytes (kindAt (d .kinds) (c .before .loop .i)) ≤ c .before .before .before .box-bytes .result)
 unfolding boxBytes
 inside c =
     let s = c .before .before in
     let d = c .before .before .before .before .before .before .args .description in
     let i = c .before .loop .i in
     let up = rw (s .sides-of .ensures) at (start-up (d .kinds) i (s .sides-of .result) (c .loop-test .taken)) in
-    omega (arith, c .before .loop .inv .1, s .before .box-bytes .ensures, up, range-bytes-most (kindAt (d .kinds) i))
+    omega (arith, c .before .loop .inv .1, s .before .box-bytes .ensures, up)
 
 side-sound-requires : tie.Need-side-sound-requires Inv-loop μ-loop
 side-sound-requires c κs = (inside (c .before), rw (c .before .before .before .before .box-bytes .ensures) (c .before .before .before .before .before .before .before .pre))

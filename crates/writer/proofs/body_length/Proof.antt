@@ -1,7 +1,6 @@
 -- `writer::body_length` meets its contract: a refusal, or the bytes of the whole. Assumes nothing.
-use mathlib.Core.Path.{_≡_, _∙_}
+use mathlib.Core.Path.{_∙_}
 use mathlib.Core.List.{[]}
-use native.Mathlib.Omega.{arith}
 use borrow.Author.Needs.{needs}
 use borrow.Author.Tests.{eq-eqb, ne-eqb}
 use Rattle.rtree.proofs.Passed.{box-bytes-most}

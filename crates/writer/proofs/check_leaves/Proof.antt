@@ -1,5 +1,5 @@
 -- `writer::check_leaves` meets its contract: no fault, or the first. Assumes nothing.
-use mathlib.Core.Path.{_≡_, sym, _∙_}
+use mathlib.Core.Path.{sym, _∙_}
 use borrow.Author.Needs.{needs}
 use Rattle.writer.proofs.check_leaves.Statement.{statement}
 use Rattle.writer.proofs.check_leaves.Tie as tie

@@ -2,7 +2,7 @@
 -- there (`Down`), since it has the leaves at their place. The measure is the number of levels that are left.
 -- Assumes nothing.
 use Prim.Native.Nat.{ℕ, suc, _+_, _-_, _*_, _≤_, _<_}
-use mathlib.Core.Path.{_≡_, refl, sym, ap, _∙_}
+use mathlib.Core.Path.{_≡_, ap, _∙_}
 use mathlib.Core.List.{List}
 use native.Mathlib.Omega.{arith}
 use lib.ListN.{length, getD}
@@ -10,14 +10,14 @@ use lib.Seq.{sets, length-sets}
 use borrow.Author.Needs.{needs}
 use Rattle.order.specs.Little.{bytesOf}
 use Rattle.description.specs.Description.{boxBytes}
-use Rattle.tree.specs.Shape.{boxes, height, levels, levelStart, bodyBytes}
+use Rattle.tree.specs.Shape.{boxes, height, levels, levelStart}
 use Rattle.tree.proofs.Limits.{levels-most}
 use Rattle.tree.proofs.Places.{leaves-end, level-inside}
 use Rattle.tree.proofs.Table.{shape-levels, start-at, count-at}
 use Rattle.rtree.proofs.Passed.{box-bytes-most}
 use Rattle.writer.specs.Code.Rows.{Filling}
 use Rattle.writer.proofs.Stores.{number-stored}
-use Rattle.writer.proofs.Levels.{start-some, Down, begun, levels-there, above, ended}
+use Rattle.writer.proofs.Levels.{start-some, Down, begun, levels-there, level-numbers, above, ended}
 use Rattle.writer.proofs.fill.Statement.{statement}
 use Rattle.writer.proofs.fill.Tie as tie
 
@@ -119,10 +119,15 @@ put-level-requires c κs =
     let j = i .before .loop .j in
     let r = below-root i in
     let there = levels-there (x .description) (x .tiles) (x .fanout) (x .leaves .now) (x .out .now) (s .before .before .before .before .pre) (j - 1)
+    (i .before .loop .out) (come (i .before)) (r .1) in
+    let numbers = level-numbers (x .description) (x .tiles) (x .fanout) (x .leaves .now) (x .out .now) (s .before .before .before .before .pre) (j - 1)
     (i .before .loop .out) (come (i .before)) (r .1) in (
       (omega (arith, i .before .loop .inv .0), omega (arith, i .loop-test, all-levels s, levels-most (s .before .before .before .before .pre .sizes))),
-      rw (start-is s j (omega (arith, r)), count-is s j (omega (arith, r)), start-is s (j - 1) (omega (arith, r)), count-is s (j - 1) (omega (arith, r)))
-          (rw (r .0) at there),
+      (
+        rw (start-is s j (omega (arith, r)), count-is s j (omega (arith, r)), start-is s (j - 1) (omega (arith, r)), count-is s (j - 1) (omega (arith, r)))
+            (rw (r .0) at there),
+        rw (start-is s (j - 1) (omega (arith, r)), count-is s (j - 1) (omega (arith, r))) numbers,
+      ),
     )
 
 loop-again : tie.Need-loop-again Inv-loop μ-loop

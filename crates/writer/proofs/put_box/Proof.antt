@@ -1,20 +1,20 @@
 -- `writer::put_box` meets its contract. The invariant: the buffer holds the first i sides of the parent. The measure is
 -- the number of sides that are left.
 -- Assumes nothing.
-use Prim.Native.Nat.{ℕ, suc, _+_, _-_, _*_, _≤_, _<_}
+use Prim.Native.Nat.{suc, _+_, _-_, _≤_}
 use mathlib.Core.Path.{_≡_, refl, sym, ap, _∙_}
 use native.Mathlib.Omega.{arith}
-use lib.ListN.{length, drop}
+use lib.ListN.{length, drop, length-drop}
 use lib.Seq.{sets, length-sets}
 use borrow.Author.Needs.{needs}
 use Rattle.answers.specs.Runs.{over, join}
 use Rattle.description.specs.Kinds.{rangeBytes}
-use Rattle.description.specs.Description.{kindAt, sideStart, sidesOf, boxBytes}
+use Rattle.description.specs.Description.{kindAt, sideStart, boxBytes}
 use Rattle.description.proofs.Sides.{start-first, start-up}
 use Rattle.boxes.specs.Least.{leastSide, around}
 use Rattle.boxes.proofs.Walking.{next-place, place-fits}
 use Rattle.writer.specs.Code.Rows.{boxIn}
-use Rattle.writer.proofs.Rows.{box-next}
+use Rattle.writer.proofs.Rows.{box-past, box-next}
 use Rattle.writer.proofs.put_box.Statement.{statement}
 use Rattle.writer.proofs.put_box.Tie as tie
 
@@ -48,17 +48,42 @@ side-before c =
     let k = s .before .before .before .args .description .kinds in
     omega (arith, c .before .loop .inv .1, own s, start-up k (c .before .loop .i) (s .sides-of .result) (c .loop-test .taken))
 
+-- the row stands as it stood
+past : (c : tie.In-loop Inv-loop μ-loop)
+    → (let x = c .before .before .before .before .before .args in drop (x .start) (c .before .loop .out) ≡ drop (x .start) (x .out .now))
+past c =
+    let l = c .before in
+    let s = l .before in
+    let g = s .before .before .before in
+    let x = g .args in
+    let p = g .pre .1 .0 in
+    let all : suc (x .count - 1) ≡ x .count = omega (arith, p .some) in
+    let o = own s in
+    box-past (x .description .kinds) (s .sides-of .result) (x .out .now) (x .at) (x .start) (x .first) (x .count - 1)
+    (rw (all, ← o) (p .there)) (rw (← o) (p .before)) (l .loop .i) (c .loop-test .taken) (l .loop .out) (l .loop .inv .3)
+
 add-put-side : tie.Need-add-put-side Inv-loop μ-loop
 add-put-side c =
-    let p = c .before .before .before .before .before .before .before .pre .1 in
+    let p = c .before .before .before .before .before .before .before .pre .1 .0 in
     record { fits = omega (arith, side-before (c .before .before), p .before, p .there) }
 
 put-side-requires : tie.Need-put-side-requires Inv-loop μ-loop
 put-side-requires c κs =
-    let l = c .before .before .before .loop in
-    let p = c .before .before .before .before .before .before .before .pre .1 in
-    let side = side-before (c .before .before) in
-    (p .some, (side, (omega (arith, l .inv .2, p .there), omega (arith, side, p .before))))
+    let i = c .before .before in
+    let l = i .before in
+    let s = l .before in
+    let g = s .before .before .before in
+    let p = g .pre .1 .0 in
+    let side = side-before i in (
+      rw (past i) (record {
+        some = p .some;
+        inside = side;
+        there = simp length-drop (omega (arith, p .there));
+        numbers = λ k from to.
+            rw (g .pre .0, l .loop .inv .1) (g .pre .1 .1 (l .loop .i) (omega (arith, i .loop-test, s .sides-of .ensures)) k from to);
+      }),
+      omega (arith, side, p .before),
+    )
 
 loop-again : tie.Need-loop-again Inv-loop μ-loop
 loop-again c =
@@ -67,7 +92,7 @@ loop-again c =
     let l = i .before in
     let s = l .before in
     let x = s .before .before .before .args in
-    let p = s .before .before .before .pre .1 in
+    let p = s .before .before .before .pre .1 .0 in
     let all : suc (x .count - 1) ≡ x .count = omega (arith, p .some) in
     let o = own s in (
       omega (arith, i .loop-test),

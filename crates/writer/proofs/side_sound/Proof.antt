@@ -23,15 +23,15 @@ side-sound-spec =
     tie.close
     (tie.spec
     (λ c. search needs)
-    (λ c κs. search needs)
+    (λ c κs. let s = c .before .before .before in (rw (c .enum-told .given .1) at (s .pre .0), s .pre .1))
     (λ c. search needs)
-    (λ c κs. search needs)
+    (λ c κs. let s = c .before .before .before in (rw (c .enum-told2 .given .1) at (s .pre .0), s .pre .1))
     (λ c. search needs)
-    (λ c κs. search needs)
+    (λ c κs. let s = c .before .before .before in (rw (c .enum-told3 .given .1) at (s .pre .0), s .pre .1))
     (λ c. search needs)
-    (λ c κs. search needs)
+    (λ c κs. let s = c .before .before .before in (rw (c .enum-told4 .given .1) at (s .pre .0), s .pre .1))
     (λ c. search needs)
-    (λ c κs. search needs)
+    (λ c κs. let s = c .before .before .before in (rw (c .enum-told5 .given .1) at (s .pre .0), s .pre .1))
     returns
     returns-2
     returns-3

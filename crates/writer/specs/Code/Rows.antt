@@ -3,9 +3,8 @@
 -- Assumes nothing.
 use Prim.Native.Nat.{ℕ, _+_, _-_, _*_, _<_, _≤_, min}
 use mathlib.Core.Path.{_≡_}
-use mathlib.Core.Bool.{cond}
+use mathlib.Core.Bool.{true, false}
 use mathlib.Core.List.{List, _++_}
-use lib.Dec.{ltb}
 use lib.ListN.{length, take, drop}
 use Rattle.answers.specs.Runs.{join}
 use Rattle.answers.specs.Checks.{each}
@@ -13,13 +12,15 @@ use Rattle.answers.specs.declared.Refusal.{Refusal}
 use Rattle.order.specs.Little.{bytesOf}
 use Rattle.description.specs.declared.Kind.{Kind}
 use Rattle.description.specs.declared.Description.{Description}
-use Rattle.description.specs.Kinds.{endBytes, rangeBytes}
-use Rattle.description.specs.Description.{sidesOf, boxBytes}
-use Rattle.ranges.specs.Ranges.{endsAt, verdictAt, storedRefusal}
+use Rattle.description.specs.Kinds.{endBytes, rangeBytes, isInfinite, ordered, atMost}
+use Rattle.description.specs.Description.{kindAt, sideStart, sidesOf, boxBytes}
+use Rattle.ranges.specs.declared.Patterns.{Patterns}
+use Rattle.ranges.specs.Ranges.{endsAt, hasNan, verdictAt, storedRefusal}
 use Rattle.boxes.specs.Boxes.{rangesRefusal}
 use Rattle.boxes.specs.Least.{lowestAt, highestAt, around}
 use Rattle.description.specs.Limits.{Sizes}
 use Rattle.tree.specs.Shape.{up, bodyBytes}
+use Rattle.written.specs.Writing.{leafRefusal}
 
 -- box c, of b bytes
 abbrev pub boxIn : List ℕ → ℕ → ℕ → List ℕ
@@ -40,6 +41,12 @@ module _ (kind : Kind) (rest : List ℕ) (b side k more : ℕ) where
       take (endBytes kind) (drop (lowestOf * b + side) rest)
       ++ take (endBytes kind) (drop (highestOf * b + side + endBytes kind) rest)
 
+-- the patterns of both ends
+abbrev pub LeastEnds : Kind → List ℕ → ℕ → ℕ → ℕ → ℕ → Patterns → Type 0
+LeastEnds kind rest b side k more r =
+    (r .low ≡ endsAt kind rest (lowestOf kind rest b side k more * b + side) .low)
+    × (r .high ≡ endsAt kind rest (highestOf kind rest b side k more * b + side) .high)
+
 module _ (d : Description) (f : ℕ) where
   -- the parent of row k of a level of so many boxes
   abbrev pub parentOf : List ℕ → ℕ → ℕ → List ℕ
@@ -55,9 +62,27 @@ unfoldable pub leavesRefusal : Description → ℕ → List ℕ → Refusal
 leavesRefusal d n leaves =
     each (λ k. rangesRefusal (d .kinds) (sidesOf (d .dimensions)) (boxIn leaves (boxBytes d) k) (k * boxBytes d)) 0 n
 
+-- ends that are finite and in order
+abbrev pub SoundEnds : Kind → ℕ → ℕ → Type 0
+SoundEnds kind low high =
+    (atMost (ordered kind) low high ≡ true) × (isInfinite kind low ≡ false) × (isInfinite kind high ≡ false)
+
 -- no leaf's range at this place of it has a fault
 abbrev pub SoundSide : Kind → List ℕ → ℕ → ℕ → ℕ → Type 0
 SoundSide kind leaves b side n = (k : ℕ) → k < n → storedRefusal (verdictAt kind leaves (k * b + side)) side .number ≡ 0
+
+-- of the boxes from k on, so many, no range has a NaN
+abbrev pub NoNan : Description → List ℕ → ℕ → ℕ → Type 0
+NoNan d rest k count =
+    (i : ℕ) → i < sidesOf (d .dimensions) → (c : ℕ) → k ≤ c → c < k + count
+    → hasNan (endsAt (kindAt (d .kinds) i) rest (c * boxBytes d + sideStart (d .kinds) i)) ≡ false
+
+-- one side of a row of boxes that is there
+pub record SideRow (kind : Kind) (level : List ℕ) (b side first count : ℕ) : Type 0 where
+  pub some : 0 < count
+  pub inside : side + rangeBytes kind ≤ b
+  pub there : (first + count) * b ≤ length level
+  pub numbers : (c : ℕ) → first ≤ c → c < first + count → hasNan (endsAt kind level (c * b + side)) ≡ false
 
 -- a row of boxes that is there, from place `start` of a buffer on, past a place that is written to
 pub record Row (out : List ℕ) (b start first count at : ℕ) : Type 0 where
@@ -77,4 +102,5 @@ pub record Levels (out : List ℕ) (b f start parents next count : ℕ) : Type 0
 pub record Filling (d : Description) (n f : ℕ) (leaves out : List ℕ) : Type 0 where
   pub sizes : Sizes n f
   pub whole : length leaves ≡ n * boxBytes d
+  pub sound : (k : ℕ) → k < n → leafRefusal d n f leaves k .number ≡ 0
   pub room : bodyBytes f n (boxBytes d) ≤ length out
