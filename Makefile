@@ -33,7 +33,7 @@ report:
 	@target/bin/report '$(DESCRIPTION)' '$(FOOTER)' '$(TREE)' '$(OFFSETS)'
 
 # The crates that export C functions. Each is an object of its own, in which only the exported names are seen.
-EXPORTS := c_footer c_lists c_open c_parts c_query c_box_test c_writer c_report
+EXPORTS := c_footer c_lists c_open c_query c_box_test c_writer c_report
 
 # Made anew where a file that the proofs or the code rest on is newer; what the prover says goes to build/lib.log.
 lib: build/libtussockbell.so

@@ -192,7 +192,7 @@ static inline const char *tussockbell_refusal_text(uint64_t number)
 
 /* The state of tussockbell_parts_start, tussockbell_parts_block and tussockbell_parts_finish: what its places hold is the
  * library's own business. */
-#define TUSSOCKBELL_PARTS_PLACES 201
+#define TUSSOCKBELL_PARTS_PLACES 40
 
 /* tussockbell_query */
 #define TUSSOCKBELL_QUERY_FOUND 2

@@ -70,7 +70,7 @@ pub fn open(kinds: &[u8], fields: u64, capacity: u64, file_size: u64, footer: &[
 pub fn open_parts(
     kinds: &[u8], fields: u64, capacity: u64, file_size: u64, footer: &[u8], tree: &[u8], size: usize, work: &mut [u8],
 ) -> [u64; 6] {
-    let (mut state, mut answer) = ([0; 201], [0; 6]);
+    let (mut state, mut answer) = ([0; 40], [0; 6]);
     unsafe {
         tussockbell_parts_start(
             kinds.as_ptr(), kinds.len(), fields, capacity, file_size, footer.as_ptr(), footer.len(), tree.len() as u64, state.as_mut_ptr(),

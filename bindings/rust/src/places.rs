@@ -50,7 +50,7 @@ places! {
     OPEN_FANOUT = 4;
     OPEN_LEVELS = 5;
     OPEN_PLACES = 6;
-    PARTS_PLACES = 201;
+    PARTS_PLACES = 40;
     QUERY_FOUND = 2;
     QUERY_LOOKED = 3;
     QUERY_PLACES = 4;

@@ -1,2 +1,3 @@
 -- The definitions that the exported functions' contracts cite.
 pub mod Places
+pub mod State

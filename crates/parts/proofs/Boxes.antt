@@ -25,18 +25,20 @@ use Rattle.tree.proofs.Places.{start-root, start-down}
 use Rattle.footer.specs.Fields.{tilesOf, domainBytes}
 use Rattle.rtree.specs.Body.{fanoutOf, storedCount}
 use Rattle.rtree.specs.Opening.{boxesRefusal}
+use Rattle.parts.specs.declared.Cursor.{Cursor}
 use Rattle.parts.specs.declared.Parts.{Parts}
 use Rattle.parts.specs.Parts.{innerBytes}
 use Rattle.parts.specs.Code.Rest.{boxCheck, boxesFrom, runCheck}
-use Rattle.parts.specs.Code.State.{countIn, moved, lowered, passed, InTree, Going, Holds, Reads, Stored}
+use Rattle.parts.specs.Code.Cursor.{onward, moved, lowered, passed}
+use Rattle.parts.specs.Code.State.{InTree, Going, Holds, Reads, Stored}
 use Rattle.parts.proofs.Lists.{read-there, pasted-before, pasted-upto}
 use Rattle.parts.proofs.Levels.{from-run, from-next, start-after, own-below, own-fits}
 use Rattle.parts.proofs.Rows.{run-said, root-said}
 use Rattle.parts.proofs.Front.{some-bytes, count-is, some-boxes}
 
 module _ {d : Description} {F : ℕ} {footer : List ℕ} {stated : ℕ} {body work : List ℕ} {s : Parts} {p : ℕ}
-    (g : Going d F footer stated body work s p) (some-fanout : 0 < s .fanout) (zero-number : s .number ≡ 0)
-    (is-counted : 0 < s .counted) (none-kept : s .kept ≡ 0) (m : ℕ) (some : 0 < m) (few : m ≤ countIn s - s .index)
+    (g : Going d F footer stated body work s p) (some-fanout : 0 < s .cursor .fanout) (zero-number : s .cursor .number ≡ 0)
+    (is-counted : 0 < s .cursor .counted) (none-kept : s .cursor .kept ≡ 0) (m : ℕ) (some : 0 < m) (few : m ≤ s .cursor .count - s .cursor .index)
     {bytes : List ℕ} (r : Reads body p bytes) (size : length bytes ≡ m * boxBytes (s .description))
     (fits : p + length bytes ≤ stated) where
   abbrev n : ℕ
@@ -49,10 +51,10 @@ module _ {d : Description} {F : ℕ} {footer : List ℕ} {stated : ℕ} {body wo
   f = fanoutOf body
 
   abbrev j : ℕ
-  j = s .level
+  j = s .cursor .level
 
   abbrev k : ℕ
-  k = s .index
+  k = s .cursor .index
 
   abbrev domain : List ℕ
   domain = domainBytes d footer
@@ -63,10 +65,10 @@ module _ {d : Description} {F : ℕ} {footer : List ℕ} {stated : ℕ} {body wo
   len : length bytes ≡ m * b
   len = rw (g .description) at size
 
-  one : s .counted ≡ 1
+  one : s .cursor .counted ≡ 1
   one = omega (arith, t .flag)
 
-  here : p ≡ s .done
+  here : p ≡ s .cursor .done
   here = omega (arith, g .here, none-kept)
 
   at : p ≡ levelStart f n b j + k * b
@@ -76,23 +78,23 @@ module _ {d : Description} {F : ℕ} {footer : List ℕ} {stated : ℕ} {body wo
   there = read-there body p bytes r (omega (arith, len, mul-le-mul-right b some, some-bytes g))
 
   in-level : k + m ≤ boxes f n j
-  in-level = omega (arith, few, count-is g some-fanout, t .index, some)
+  in-level = omega (arith, few, count-is g some-fanout is-counted, t .index, some)
 
   reads-at : Reads body (levelStart f n b j + k * b) bytes
   reads-at = rw at at r
 
   -- what is told of them
-  run-is : runCheck s work bytes m ≡ each (boxCheck d n domain body j) k m
+  run-is : runCheck s (s .cursor) work bytes m ≡ each (boxCheck d n domain body j) k m
   run-is = go (decLe (suc j) (height f n))
     where
-      go : Dec (suc j ≤ height f n) → runCheck s work bytes m ≡ each (boxCheck d n domain body j) k m
+      go : Dec (suc j ≤ height f n) → runCheck s (s .cursor) work bytes m ≡ each (boxCheck d n domain body j) k m
       go (yes l) =
           let up : j + suc (height f n - suc j) ≡ height f n = omega arith in
           let after = rw (up, start-root f n b) at (start-after f n b j (height f n - suc j) (omega arith)) in
-          let other : eqb (s .done) 16 ≡ false = ne-eqb (s .done) 16 (λ e. omega (arith, here, at)) in
-          let place : s .done ≡ levelStart f n b j + k * b = omega (arith, here, at) in
+          let other : eqb (s .cursor .done) 16 ≡ false = ne-eqb (s .cursor .done) 16 (λ e. omega (arith, here, at)) in
+          let place : s .cursor .done ≡ levelStart f n b j + k * b = omega (arith, here, at) in
           rw (other, g .description, t .fanout, place)
-          (run-said d n domain body j k m (s .parents) bytes work (omega (arith, t .sized .least)) l in-level reads-at len (t .above l))
+          (run-said d n domain body j k m (s .cursor .parents) bytes work (omega (arith, t .sized .least)) l in-level reads-at len (t .above l))
       go (no o) =
           let top : j ≡ height f n = omega (arith, t .near) in
           let single = height-one f n (omega (arith, t .sized .least)) (t .sized .some) in
@@ -101,21 +103,21 @@ module _ {d : Description} {F : ℕ} {footer : List ℕ} {stated : ℕ} {body wo
           let only : m ≡ 1 = omega (arith, in-level) in
           let start : levelStart f n b j ≡ 16 = rw top (start-root f n b) in
           let zero-bytes : k * b ≡ 0 = rw first (omega arith) in
-          let place : s .done ≡ 16 = omega (arith, here, at) in
+          let place : s .cursor .done ≡ 16 = omega (arith, here, at) in
           let single-size : length bytes ≡ b = len ∙ rw only (omega arith) in
           let reads-root : Reads body 16 bytes = rw (here, place) at r in
-          rw (eq-eqb (s .done) 16 place, g .description, g .domain, top, first, only)
+          rw (eq-eqb (s .cursor .done) 16 place, g .description, g .domain, top, first, only)
           (root-said d n domain body bytes reads-root single-size (some-bytes g))
 
   module _ {fault : Refusal}
-      (told : fault ≡ otherwise (refusals.refusal (s .«box_number») (s .«box_place»)) (runCheck s work bytes m)) where
+      (told : fault ≡ otherwise (refusals.refusal (s .cursor .«box_number») (s .cursor .«box_place»)) (runCheck s (s .cursor) work bytes m)) where
     fault-after : boxesRefusal d n body domain ≡ otherwise fault (boxesFrom d n domain body j (k + m))
     fault-after =
         t .fault
         ∙ rw (from-run d n domain body j k m in-level)
-        (sym (rw (told, run-is) (regroup (refusals.refusal (s .«box_number») (s .«box_place»)) (each (boxCheck d n domain body j) k m) (boxesFrom d n domain body j (k + m)))))
+        (sym (rw (told, run-is) (regroup (refusals.refusal (s .cursor .«box_number») (s .cursor .«box_place»)) (each (boxCheck d n domain body j) k m) (boxesFrom d n domain body j (k + m)))))
 
-    module _ {to : ℕ} (place : to ≡ s .own + k * b) {after : List ℕ} (stored : Stored work j to bytes after) where
+    module _ {to : ℕ} (place : to ≡ s .cursor .own + k * b) {after : List ℕ} (stored : Stored work j to bytes after) where
       down : 0 < j → suc (j - 1) ≡ j
       down h = omega arith
 
@@ -126,13 +128,13 @@ module _ {d : Description} {F : ℕ} {footer : List ℕ} {stated : ℕ} {body wo
           let fit = rw z at (own-fits f n b (j - 1) (omega (arith, t .near))) in
           omega (arith, place, t .own, len, fit, mul-le-mul-right b in-level, t .room)
 
-      mine-after : 0 < j → take ((k + m) * b) (drop (s .own) after) ≡ take ((k + m) * b) (drop (levelStart f n b j) body)
+      mine-after : 0 < j → take ((k + m) * b) (drop (s .cursor .own) after) ≡ take ((k + m) * b) (drop (levelStart f n b j) body)
       mine-after h =
           let more : (k + m) * b ≡ k * b + length bytes = omega (arith, len) in
           rw (
             more,
             stored .some h (has-room h),
-            pasted-upto work to bytes (has-room h) (s .own) (k * b) (sym place),
+            pasted-upto work to bytes (has-room h) (s .cursor .own) (k * b) (sym place),
             t .mine h,
             take-add (k * b) (length bytes) (drop (levelStart f n b j) body),
             drop-drop (k * b) (levelStart f n b j) body,
@@ -140,22 +142,22 @@ module _ {d : Description} {F : ℕ} {footer : List ℕ} {stated : ℕ} {body wo
           )
 
       above-after : j < height f n
-          → take (boxes f n (suc j) * b) (drop (s .parents) after)
+          → take (boxes f n (suc j) * b) (drop (s .cursor .parents) after)
           ≡ take (boxes f n (suc j) * b) (drop (levelStart f n b (suc j)) body)
       above-after l = go (decLe 1 j) ∙ t .above l
         where
-          go : Dec (1 ≤ j) → take (boxes f n (suc j) * b) (drop (s .parents) after) ≡ take (boxes f n (suc j) * b) (drop (s .parents) work)
+          go : Dec (1 ≤ j) → take (boxes f n (suc j) * b) (drop (s .cursor .parents) after) ≡ take (boxes f n (suc j) * b) (drop (s .cursor .parents) work)
           go (yes h) =
               rw (stored .some h (has-room h))
-              (pasted-before work to bytes (has-room h) (s .parents) (boxes f n (suc j) * b)
+              (pasted-before work to bytes (has-room h) (s .cursor .parents) (boxes f n (suc j) * b)
               (omega (arith, place, t .own, t .parents l, own-below f n b j l)))
           go (no h) = rw (stored .none (omega arith))
 
-      abbrev next : Parts
-      next = moved s (k + m) (s .done + length bytes) fault
+      abbrev next : Cursor
+      next = moved (s .cursor) (k + m) (s .cursor .done + length bytes) fault
 
       -- at the next box of the level, or past the last leaf
-      same-level : (k + m ≡ boxes f n j → j ≡ 0) → InTree d F footer stated body after next
+      same-level : (k + m ≡ boxes f n j → j ≡ 0) → InTree d F footer stated body after (onward s next)
       same-level end = record {
         sized = t .sized;
         fanout = t .fanout;
@@ -163,11 +165,12 @@ module _ {d : Description} {F : ℕ} {footer : List ℕ} {stated : ℕ} {body wo
         leveled = t .leveled;
         whole = t .whole;
         room = omega (arith, t .room, stored .room);
-        table = t .table;
         near = t .near;
-        flag = omega arith;
+        flag = t .flag;
         fresh = λ e. absurd (omega arith);
-        place = omega (arith, here, at, len);
+        none = t .none;
+        count = t .count;
+        place = omega (arith, here, at, len, one);
         index = in-level;
         last = end;
         counts = λ i near later. t .counts i near (omega (arith, one));
@@ -180,7 +183,7 @@ module _ {d : Description} {F : ℕ} {footer : List ℕ} {stated : ℕ} {body wo
       }
 
       -- at the count of the level below
-      level-below : 0 < j → k + m ≡ boxes f n j → InTree d F footer stated body after (lowered next (to + length bytes))
+      level-below : 0 < j → k + m ≡ boxes f n j → InTree d F footer stated body after (onward s (lowered next (to + length bytes)))
       level-below h all =
           let z = down h in
           let near : suc (j - 1) ≤ height f n = omega (arith, t .near) in
@@ -195,10 +198,11 @@ module _ {d : Description} {F : ℕ} {footer : List ℕ} {stated : ℕ} {body wo
             leveled = t .leveled;
             whole = t .whole;
             room = omega (arith, t .room, stored .room);
-            table = t .table;
             near = omega (arith, t .near);
             flag = omega arith;
             fresh = λ _. refl;
+            none = λ _. refl;
+            count = λ l. absurd (omega arith);
             place = omega (arith, here, at, len, every, lower);
             index = omega arith;
             last = λ e. absurd (omega (arith, some-boxes g some-fanout (j - 1)));
@@ -211,7 +215,7 @@ module _ {d : Description} {F : ℕ} {footer : List ℕ} {stated : ℕ} {body wo
             mine = λ _. rw none;
           }
 
-      holds-same : (k + m ≡ boxes f n j → j ≡ 0) → Holds d F footer stated body after next (p + length bytes)
+      holds-same : (k + m ≡ boxes f n j → j ≡ 0) → Holds d F footer stated body after (onward s next) (p + length bytes)
       holds-same end = record {
         decided = λ o. absurd (o zero-number);
         going = λ _. record {
@@ -224,7 +228,7 @@ module _ {d : Description} {F : ℕ} {footer : List ℕ} {stated : ℕ} {body wo
           here = omega (arith, here, none-kept);
           within = fits;
           there = there;
-          part = rw (g .description, none-kept) (some-bytes g);
+          part = rw (ne-eqb (s .cursor .counted) 0 (λ e. omega (arith, one)), none-kept) (some-bytes g);
           held = rw none-kept refl;
           blank = λ z. absurd (omega arith);
           tree = λ _. same-level end;
@@ -232,7 +236,7 @@ module _ {d : Description} {F : ℕ} {footer : List ℕ} {stated : ℕ} {body wo
       }
 
       holds-below : 0 < j → k + m ≡ boxes f n j
-          → Holds d F footer stated body after (lowered next (to + length bytes)) (p + length bytes)
+          → Holds d F footer stated body after (onward s (lowered next (to + length bytes))) (p + length bytes)
       holds-below h all = record {
         decided = λ o. absurd (o zero-number);
         going = λ _. record {
@@ -252,17 +256,18 @@ module _ {d : Description} {F : ℕ} {footer : List ℕ} {stated : ℕ} {body wo
         };
       }
 
-      pub boxes-taken : {count own : ℕ} → count ≡ countIn s → own ≡ to + length bytes
-          → Holds d F footer stated body after (passed next count own) (p + length bytes)
-      boxes-taken {count} {own} c o = go (decLe (suc (k + m)) count) (decLe 1 j)
+      pub boxes-taken : {own : ℕ} → own ≡ to + length bytes
+          → Holds d F footer stated body after (onward s (passed next own)) (p + length bytes)
+      boxes-taken {own} o = go (decLe (suc (k + m)) (s .cursor .count)) (decLe 1 j)
         where
-          is : count ≡ boxes f n j
-          is = c ∙ count-is g some-fanout
+          is : s .cursor .count ≡ boxes f n j
+          is = count-is g some-fanout is-counted
 
-          go : Dec (suc (k + m) ≤ count) → Dec (1 ≤ j) → Holds d F footer stated body after (passed next count own) (p + length bytes)
-          go (yes l) q = rw (lt-ltb (k + m) count l) (holds-same (λ e. absurd (omega (arith, is))))
+          go : Dec (suc (k + m) ≤ s .cursor .count) → Dec (1 ≤ j)
+              → Holds d F footer stated body after (onward s (passed next own)) (p + length bytes)
+          go (yes l) q = rw (lt-ltb (k + m) (s .cursor .count) l) (holds-same (λ e. absurd (omega (arith, is))))
           go (no l) (yes h) =
-              rw (le-ltb (k + m) count (omega arith), ne-eqb j 0 (λ e. omega arith), o)
+              rw (le-ltb (k + m) (s .cursor .count) (omega arith), ne-eqb j 0 (λ e. omega arith), o)
               (holds-below h (omega (arith, is, in-level)))
           go (no l) (no h) =
-              rw (le-ltb (k + m) count (omega arith), eq-eqb j 0 (omega arith)) (holds-same (λ _. omega arith))
+              rw (le-ltb (k + m) (s .cursor .count) (omega arith), eq-eqb j 0 (omega arith)) (holds-same (λ _. omega arith))

@@ -36,8 +36,8 @@ use Rattle.rtree.specs.Opening.{refusedIn}
 use Rattle.rtree.proofs.Passed.{box-bytes-most}
 use Rattle.parts.specs.declared.Parts.{Parts}
 use Rattle.parts.specs.Parts.{innerBytes, frontShown, countsShown, shownRefusal, whichOf, partsAnswer}
-use Rattle.parts.specs.Code.State.{itemBytes, countIn, roomLeft, mostWork, InRange, wholeIn, innerIn}
-use Rattle.parts.specs.Code.State.{refused, fronted, moved, Blank, InTree, Going, Holds, Reads}
+use Rattle.parts.specs.Code.Cursor.{onward, refused, fronted, counted}
+use Rattle.parts.specs.Code.State.{mostWork, InRange, wholeIn, innerIn, Blank, InTree, Going, Holds, Reads}
 use Rattle.parts.proofs.Lists.{read-there}
 use Rattle.parts.proofs.Shown.{shown, say-shown, inner-boxes, front-have, front-code, count-stops}
 use Rattle.parts.proofs.Levels.{own-fits, own-root, from-first}
@@ -69,39 +69,46 @@ module _ {d : Description} {F : ℕ} {footer : List ℕ} {stated : ℕ} {body wo
   pub some-bytes : 0 < b
   some-bytes = omega (arith, footer-has .head .description .some-bytes)
 
-  pub in-range : (left : ℕ) → p + left ≤ stated → InRange s left
-  in-range left fits = go (decLe 1 (s .fanout))
+  pub in-range : (left : ℕ) → p + left ≤ stated → InRange (s .stated) b (s .cursor) left
+  in-range left fits = go (decLe 1 (s .cursor .fanout))
     where
-      room : left ≤ roomLeft s
+      room : left ≤ s .stated - (s .cursor .done + s .cursor .kept)
       room = omega (arith, g .said, g .here)
 
-      go : Dec (1 ≤ s .fanout) → InRange s left
+      go : Dec (1 ≤ s .cursor .fanout) → InRange (s .stated) b (s .cursor) left
       go (yes some) =
           let t = g .tree some in
-          let count : countIn s ≡ boxes f n (s .level) = rw (t .table) (count-at (t .sized) b (box-bytes-most d) (s .level) (t .near)) in
           let few = inner-small (t .sized) b (box-bytes-most d) in
+          let c = count-small t (decLe 1 (s .cursor .counted)) in
           record {
-            near = omega (arith, t .near, root-near (t .sized));
-            most = rw (t .table) (count-most (t .sized) b (box-bytes-most d) (s .level));
-            within = omega (arith, count, t .index);
+            most = c .0;
+            within = c .1;
             fanout = omega (arith, t .fanout, t .sized .widest);
-            own = omega (arith, t .own, own-small f n b (s .level) (t .near), few);
-            parents = parents-small t few (decLe (suc (s .level)) (height f n));
+            own = omega (arith, t .own, own-small f n b (s .cursor .level) (t .near), few);
+            parents = parents-small t few (decLe (suc (s .cursor .level)) (height f n));
             part = g .part;
             room = room;
           }
         where
+          count-small : InTree d F footer stated body work s → Dec (1 ≤ s .cursor .counted)
+              → (s .cursor .count ≤ mostTiles) × (s .cursor .index ≤ s .cursor .count)
+          count-small t (yes l) =
+              let most = rw (count-at (t .sized) b (box-bytes-most d) (s .cursor .level) (t .near)) at
+              (count-most (t .sized) b (box-bytes-most d) (s .cursor .level)) in
+              (omega (arith, t .count l, most), omega (arith, t .count l, t .index))
+          count-small t (no l) =
+              let none : s .cursor .counted ≡ 0 = omega arith in
+              (omega (arith, t .none none), omega (arith, t .fresh none))
+
           parents-small : InTree d F footer stated body work s → innerBytes f n b ≤ mostBoxBytes * (25 * mostTiles)
-              → Dec (suc (s .level) ≤ height f n) → s .parents ≤ mostWork
-          parents-small t few (yes l) = omega (arith, t .parents l, own-small f n b (suc (s .level)) l, few)
+              → Dec (suc (s .cursor .level) ≤ height f n) → s .cursor .parents ≤ mostWork
+          parents-small t few (yes l) = omega (arith, t .parents l, own-small f n b (suc (s .cursor .level)) l, few)
           parents-small t few (no l) = omega (arith, t .idle (λ h. l h))
       go (no none) =
           let k = g .blank (omega arith) in
-          let count : countIn s ≡ 0 = rw (k .level) (k .count) in
           record {
-            near = omega (arith, k .level);
-            most = omega (arith, count);
-            within = omega (arith, count, k .index);
+            most = omega (arith, k .count);
+            within = omega (arith, k .index);
             fanout = omega arith;
             own = omega (arith, k .own);
             parents = omega (arith, k .parents);
@@ -110,7 +117,7 @@ module _ {d : Description} {F : ℕ} {footer : List ℕ} {stated : ℕ} {body wo
           }
 
   -- the first eight bytes
-  module _ (zero-number : s .number ≡ 0) (blank : s .fanout ≡ 0) (none-kept : s .kept ≡ 0) {bytes : List ℕ} (r : Reads body p bytes) (eight : length bytes ≡ 8) where
+  module _ (zero-number : s .cursor .number ≡ 0) (blank : s .cursor .fanout ≡ 0) (none-kept : s .cursor .kept ≡ 0) {bytes : List ℕ} (r : Reads body p bytes) (eight : length bytes ≡ 8) where
     at-start : p ≡ 0
     at-start = omega (arith, g .here, g .blank blank .done)
 
@@ -142,7 +149,7 @@ module _ {d : Description} {F : ℕ} {footer : List ℕ} {stated : ℕ} {body wo
     have-eight = omega (arith, there, g .enough)
 
     pub front-refused : {told : Refusal} → told ≡ front → (told .number ≡ 0 → ⊥)
-        → Holds d F footer stated body work (refused s (whichOf (told .number)) (told .number) (told .place)) (p + 8)
+        → Holds d F footer stated body work (onward s (refused (s .cursor) (whichOf (told .number)) (told .number) (told .place))) (p + 8)
     unfolding shownRefusal
     front-refused {told} e some =
         let same = front-have stated (length work) (min (length body) stated) f (levelsOf body) (levels f n) (bodyBytes f n b) (innerBytes f n b) have-eight in
@@ -177,7 +184,7 @@ module _ {d : Description} {F : ℕ} {footer : List ℕ} {stated : ℕ} {body wo
         }
 
     module _ (h : Fronted) where
-      root-tree : InTree d F footer stated body work (fronted s f (levelsOf body) (shapeOf f n b .table) (height f n))
+      root-tree : InTree d F footer stated body work (onward s (fronted (s .cursor) f (levelsOf body) (height f n)))
       root-tree = record {
         sized = h .sized;
         fanout = refl;
@@ -185,10 +192,11 @@ module _ {d : Description} {F : ℕ} {footer : List ℕ} {stated : ℕ} {body wo
         leveled = h .leveled;
         whole = h .whole;
         room = h .room;
-        table = refl;
         near = omega arith;
         flag = omega arith;
         fresh = λ _. refl;
+        none = λ _. refl;
+        count = λ l. absurd (omega arith);
         place = omega (arith, start-root f n b);
         index = omega arith;
         last = λ e. absurd (omega (arith, boxes-pos f n (height f n) (omega (arith, h .sized .least)) (h .sized .some)));
@@ -201,11 +209,10 @@ module _ {d : Description} {F : ℕ} {footer : List ℕ} {stated : ℕ} {body wo
         mine = λ _. let z : 0 * b ≡ 0 = omega arith in rw z;
       }
 
-      pub front-passed : {fanout level : ℕ} {table : List ℕ} {top : ℕ} → fanout ≡ f → level ≡ levelsOf body
-          → table ≡ shapeOf f n b .table → top ≡ height f n
-          → Holds d F footer stated body work (fronted s fanout level table top) (p + 8)
-      front-passed e l q top =
-          rw (e, l, q, top) (record {
+      pub front-passed : {fanout level top : ℕ} → fanout ≡ f → level ≡ levelsOf body → top ≡ height f n
+          → Holds d F footer stated body work (onward s (fronted (s .cursor) fanout level top)) (p + 8)
+      front-passed e l top =
+          rw (e, l, top) (record {
             decided = λ some. absurd (some zero-number);
             going = λ _. record {
               passed = g .passed;
@@ -225,15 +232,15 @@ module _ {d : Description} {F : ℕ} {footer : List ℕ} {stated : ℕ} {body wo
           })
 
   -- a count comes after them
-  pub is-tree : 0 < s .counted → 0 < s .fanout
-  is-tree h = go (decLe 1 (s .fanout))
+  pub is-tree : 0 < s .cursor .counted → 0 < s .cursor .fanout
+  is-tree h = go (decLe 1 (s .cursor .fanout))
     where
-      go : Dec (1 ≤ s .fanout) → 0 < s .fanout
+      go : Dec (1 ≤ s .cursor .fanout) → 0 < s .cursor .fanout
       go (yes l) = l
       go (no l) = absurd (omega (arith, g .blank (omega arith) .counted))
 
   -- past the first eight bytes they show nothing
-  module _ (some-fanout : 0 < s .fanout) where
+  module _ (some-fanout : 0 < s .cursor .fanout) where
     abbrev t : InTree d F footer stated body work s
     t = g .tree some-fanout
 
@@ -256,61 +263,69 @@ module _ {d : Description} {F : ℕ} {footer : List ℕ} {stated : ℕ} {body wo
     unfolding shownRefusal
     shown-counts have h = rw (front-clear have h)
 
-    pub count-is : countIn s ≡ boxes f n (s .level)
-    count-is = rw (t .table) (count-at (t .sized) b (box-bytes-most d) (s .level) (t .near))
+    pub count-is : 0 < s .cursor .counted → s .cursor .count ≡ boxes f n (s .cursor .level)
+    count-is = t .count
+
+    -- as code works it out
+    pub count-shaped : (c : ℕ) → c ≡ getD (shapeOf (s .cursor .fanout) (s .tiles) (boxBytes (s .description)) .table) (2 * s .cursor .level + 1) 0
+        → c ≡ boxes f n (s .cursor .level)
+    count-shaped c e = e ∙ rw (t .fanout, g .tiles, g .description) (count-at (t .sized) b (box-bytes-most d) (s .cursor .level) (t .near))
+
+    pub near-root : s .cursor .level ≤ 24
+    near-root = omega (arith, t .near, root-near (t .sized))
 
     pub some-boxes : (j : ℕ) → 0 < boxes f n j
     some-boxes j = boxes-pos f n j (omega (arith, t .sized .least)) (t .sized .some)
 
     -- before the last byte a box is left of a level whose count has come
-    pub box-left : 0 < s .counted → p < stated → s .index < countIn s
+    pub box-left : 0 < s .cursor .counted → p < stated → s .cursor .index < s .cursor .count
     unfolding boxes
-    box-left is-counted short = go (decLe (suc (s .index)) (boxes f n (s .level)))
+    box-left is-counted short = go (decLe (suc (s .cursor .index)) (boxes f n (s .cursor .level)))
       where
-        go : Dec (suc (s .index) ≤ boxes f n (s .level)) → s .index < countIn s
-        go (yes l) = omega (arith, count-is)
+        go : Dec (suc (s .cursor .index) ≤ boxes f n (s .cursor .level)) → s .cursor .index < s .cursor .count
+        go (yes l) = omega (arith, count-is is-counted)
         go (no l) =
-            let all : s .index ≡ boxes f n (s .level) = omega (arith, t .index) in
+            let all : s .cursor .index ≡ boxes f n (s .cursor .level) = omega (arith, t .index) in
             let leaves = t .last all in
-            let every : s .index ≡ n = all ∙ rw leaves in
+            let every : s .cursor .index ≡ n = all ∙ rw leaves in
             let place = rw (leaves, every) at (t .place) in
             absurd (omega (arith, place, t .flag, g .here, leaves-end f n b, t .whole))
 
     -- a count
-    module _ (zero-number : s .number ≡ 0) (uncounted : s .counted ≡ 0) (none-kept : s .kept ≡ 0) {bytes : List ℕ} (r : Reads body p bytes)
+    module _ (zero-number : s .cursor .number ≡ 0) (uncounted : s .cursor .counted ≡ 0) (none-kept : s .cursor .kept ≡ 0) {bytes : List ℕ} (r : Reads body p bytes)
         (eight : length bytes ≡ 8) (fits : p + 8 ≤ stated) where
-      at-count : p + 8 ≡ levelStart f n b (s .level)
+      at-count : p + 8 ≡ levelStart f n b (s .cursor .level)
       at-count =
           let k = t .fresh uncounted in
-          let z : s .index * b ≡ 0 = rw k (omega arith) in
+          let z : s .cursor .index * b ≡ 0 = rw k (omega arith) in
           omega (arith, g .here, none-kept, t .place, uncounted, z)
 
       count-there : p + 8 ≤ length body
       count-there = omega (arith, read-there body p bytes r (omega (arith, eight)), eight)
 
-      pub count-read : little bytes 0 8 ≡ storedCount n b body (s .level)
+      pub count-read : little bytes 0 8 ≡ storedCount n b body (s .cursor .level)
       count-read =
-          let place : countPlace f n b (s .level) ≡ p + 0 = omega (arith, at-count) in
+          let place : countPlace f n b (s .cursor .level) ≡ p + 0 = omega (arith, at-count) in
           let e = rw eight at r in
           rw (place, ← e) (little-part body p 8 0 8 (omega arith))
 
-      pub count-refused : {stored : ℕ} → stored ≡ little bytes 0 8 → (stored ≡ countIn s → ⊥)
-          → Holds d F footer stated body work (refused s 1 refusals.levels (s .done)) (p + 8)
+      pub count-refused : {stored : ℕ} → stored ≡ little bytes 0 8 → (stored ≡ boxes f n (s .cursor .level) → ⊥)
+          → Holds d F footer stated body work (onward s (refused (s .cursor) 1 refusals.levels (s .cursor .done))) (p + 8)
       count-refused e wrong =
           let have = min (length body) stated in
-          let place : countPlace f n b (s .level) ≡ s .done = omega (arith, at-count, g .here, none-kept) in
-          let counts = count-stops n b have body (s .level) (t .near)
+          let place : countPlace f n b (s .cursor .level) ≡ s .cursor .done = omega (arith, at-count, g .here, none-kept) in
+          let counts = count-stops n b have body (s .cursor .level) (t .near)
           (λ i near later. t .counts i near (omega (arith, uncounted)))
-          (omega (arith, at-count, count-there, fits)) (λ right. wrong (e ∙ count-read ∙ right ∙ sym count-is)) in
-          let said : shown d F footer stated (length work) body ≡ refusals.refusal refusals.levels (s .done) =
+          (omega (arith, at-count, count-there, fits)) (λ right. wrong (e ∙ count-read ∙ right)) in
+          let said : shown d F footer stated (length work) body ≡ refusals.refusal refusals.levels (s .cursor .done) =
           shown-counts have (omega (arith, count-there, fits)) ∙ counts ∙ rw place in
           record {
             decided = λ _. say-shown d F footer stated (length work) body (g .passed) (rw said (λ z. omega arith)) ∙ rw said;
             going = λ z. absurd (omega arith);
           }
 
-      counted-tree : storedCount n b body (s .level) ≡ boxes f n (s .level)
-          → InTree d F footer stated body work (moved s 0 (s .done + 8) (refusals.refusal (s .«box_number») (s .«box_place»)))
+      counted-tree : storedCount n b body (s .cursor .level) ≡ boxes f n (s .cursor .level)
+          → InTree d F footer stated body work (onward s (counted (s .cursor) (boxes f n (s .cursor .level)) (s .cursor .done + 8)))
       counted-tree right = record {
         sized = t .sized;
         fanout = t .fanout;
@@ -318,14 +333,15 @@ module _ {d : Description} {F : ℕ} {footer : List ℕ} {stated : ℕ} {body wo
         leveled = t .leveled;
         whole = t .whole;
         room = t .room;
-        table = t .table;
         near = t .near;
         flag = omega arith;
         fresh = λ _. refl;
+        none = λ e. absurd (omega arith);
+        count = λ _. refl;
         place = let z : 0 * b ≡ 0 = omega arith in omega (arith, at-count, g .here, none-kept);
         index = omega arith;
-        last = λ e. absurd (omega (arith, some-boxes (s .level)));
-        counts = λ i near later. counted i near later (decLe (suc (s .level)) i);
+        last = λ e. absurd (omega (arith, some-boxes (s .cursor .level)));
+        counts = λ i near later. shown-counted i near later (decLe (suc (s .cursor .level)) i);
         own = t .own;
         parents = t .parents;
         idle = t .idle;
@@ -334,14 +350,14 @@ module _ {d : Description} {F : ℕ} {footer : List ℕ} {stated : ℕ} {body wo
         mine = λ _. let z : 0 * b ≡ 0 = omega arith in rw z;
       }
         where
-          counted : (i : ℕ) → i ≤ height f n → s .level < i + 1 → Dec (suc (s .level) ≤ i) → storedCount n b body i ≡ boxes f n i
-          counted i near later (yes l) = t .counts i near (omega (arith, uncounted))
-          counted i near later (no l) =
-              let e : i ≡ s .level = omega arith in
+          shown-counted : (i : ℕ) → i ≤ height f n → s .cursor .level < i + 1 → Dec (suc (s .cursor .level) ≤ i) → storedCount n b body i ≡ boxes f n i
+          shown-counted i near later (yes l) = t .counts i near (omega (arith, uncounted))
+          shown-counted i near later (no l) =
+              let e : i ≡ s .cursor .level = omega arith in
               rw e right
 
-      pub count-passed : {stored : ℕ} → stored ≡ little bytes 0 8 → stored ≡ countIn s
-          → Holds d F footer stated body work (moved s 0 (s .done + 8) (refusals.refusal (s .«box_number») (s .«box_place»))) (p + 8)
+      pub count-passed : {stored : ℕ} → stored ≡ little bytes 0 8 → stored ≡ boxes f n (s .cursor .level)
+          → Holds d F footer stated body work (onward s (counted (s .cursor) (boxes f n (s .cursor .level)) (s .cursor .done + 8))) (p + 8)
       count-passed e right = record {
         decided = λ some. absurd (some zero-number);
         going = λ _. record {
@@ -354,9 +370,9 @@ module _ {d : Description} {F : ℕ} {footer : List ℕ} {stated : ℕ} {body wo
           here = omega (arith, none-kept, g .here);
           within = fits;
           there = count-there;
-          part = rw (g .description, none-kept) some-bytes;
+          part = rw none-kept some-bytes;
           held = rw none-kept refl;
           blank = λ z. absurd (omega arith);
-          tree = λ _. counted-tree (sym count-read ∙ sym e ∙ right ∙ count-is);
+          tree = λ _. counted-tree (sym count-read ∙ sym e ∙ right);
         };
       }

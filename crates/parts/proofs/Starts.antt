@@ -22,7 +22,8 @@ use Rattle.rtree.specs.Opening.{refusedIn}
 use Rattle.rtree.proofs.Passed.{box-bytes-most}
 use Rattle.parts.specs.declared.Parts.{Parts}
 use Rattle.parts.specs.Parts.{frontShown, shownRefusal, countsShown, partsAnswer}
-use Rattle.parts.specs.Code.State.{begun, Blank, Going, Holds}
+use Rattle.parts.specs.Code.Cursor.{begun}
+use Rattle.parts.specs.Code.State.{Blank, Going, Holds}
 use Rattle.parts.proofs.Shown.{shown, say-footer, say-shown}
 
 module _ (d : Description) (F : ℕ) (footer : List ℕ) (stated : ℕ) {c : Checked} (e : c ≡ checkedAnswer d F footer) (body work : List ℕ) where

@@ -10,6 +10,7 @@ use Rattle.description.specs.Description.{boxBytes}
 use Rattle.description.specs.Limits.{leastFanout, mostFanout}
 use Rattle.tree.specs.Shape.{levels, bodyBytes}
 use Rattle.footer.specs.Fields.{tilesOf}
+use Rattle.footer.specs.Checks.{footerRefusal}
 use Rattle.rtree.specs.declared.Opened.{Opened}
 use Rattle.rtree.specs.Body.{fanoutOf, levelsOf}
 use Rattle.parts.specs.declared.Parts.{Parts}
@@ -55,9 +56,10 @@ unfoldable pub allBytes : List (List ℕ) → List ℕ
 allBytes [] = []
 allBytes (block ∷ blocks) = block ++ allBytes blocks
 
--- 21, for a footer that passed: once the fanout is known, and the checks before it passed, a work buffer of fewer bytes
--- than the inner boxes take.
-pub record Due (d : Description) (footer : List ℕ) (stated room : ℕ) (got : List ℕ) : Type 0 where
+-- 21: the footer passed; once the fanout is known, and the checks before it passed, a work buffer of fewer bytes than the
+-- inner boxes take.
+pub record Due (d : Description) (F : ℕ) (footer : List ℕ) (stated room : ℕ) (got : List ℕ) : Type 0 where
+  pub passed : footerRefusal d F footer .number ≡ 0
   pub enough : 8 ≤ stated
   pub known : 4 ≤ length got
   pub least : leastFanout ≤ fanoutOf got

@@ -4,9 +4,10 @@ use answers::Refusal;
 use description::Description;
 use rtree::Opened;
 ghost use mathlib.Core.Path.{_≡_};
-ghost use mathlib.Core.Bool.{true, _&&_};
+ghost use mathlib.Core.Bool.{true, _&&_, cond};
 ghost use mathlib.Core.List.{List};
 ghost use Prim.Native.Nat.{ℕ, _+_, _-_, _*_, _^_, _≤_, _<_, min};
+ghost use lib.Dec.{eqb};
 ghost use lib.ListN.{length, take, drop};
 ghost use lib.Seq.{paste};
 ghost use Rattle.answers.specs.Refusals.{refusal, outsideDomain};
@@ -19,42 +20,50 @@ ghost use Rattle.rtree.specs.Opening.{refusedIn};
 ghost use Rattle.parts.specs.Parts.{frontShown, whichOf, partsAnswer};
 ghost use Rattle.parts.specs.Took.{Starts, Carries, Answers};
 ghost use Rattle.parts.specs.Code.Rest.{placed, childCheck, runCheck};
-ghost use Rattle.parts.specs.Code.State.{itemBytes, countIn, mostWork, InRange, innerIn, wholeIn};
-ghost use Rattle.parts.specs.Code.State.{begun, refused, holding, fronted, moved, lowered, passed};
-ghost use Rattle.parts.specs.Code.State.{Stored, Takes, TakesSome, TakesItem, Ends};
+ghost use Rattle.parts.specs.Code.Cursor.{begun, withCursor};
+ghost use Rattle.parts.specs.Code.Cursor.{refused, keeping, fronted, counted, moved, lowered, passed};
+ghost use Rattle.parts.specs.Code.State.{itemBytes, mostWork, InRange, RunOf, Gathered, innerIn, wholeIn};
+ghost use Rattle.parts.specs.Code.State.{SameRoom, Stored, Takes, TakesSome, TakesItem, TakesNumber, Ends};
 
 // More than any work buffer needs.
 const MOST_WORK: usize = 1_099_511_627_776;
 
-// What goes from call to call, beside the work buffer.
-pub struct Parts {
+// What has come, in numbers.
+pub struct Cursor {
     // what is refused for good, whatever comes; number 0 while nothing is
     pub number: u64,
     pub place: u64,
     pub which: u64,
+    // 0 until the first eight bytes are there; then the fanout and L
+    pub fanout: usize,
+    pub levels: usize,
+    // what comes next: a level by its distance from the leaves, 1 and its count where that has come, a box of it by its
+    // index
+    pub level: usize,
+    pub counted: usize,
+    pub count: usize,
+    pub index: usize,
+    // where the level's boxes go in the work buffer, and where those of the level above it stand
+    pub own: usize,
+    pub parents: usize,
+    // the bytes of all that came whole; and of a number or box that came in part, how many bytes
+    pub done: u64,
+    pub kept: usize,
+    // the first fault of a box
+    pub box_number: u64,
+    pub box_place: u64,
+}
+
+// What goes from call to call, beside the work buffer.
+pub struct Parts {
     // what came with the start: n, the domain's bytes and the stated length of the body
     pub description: Description,
     pub tiles: u64,
     pub domain: [u8; 64],
     pub stated: u64,
-    // 0 until the first eight bytes are there; then the fanout and L, with the shape's places and counts
-    pub fanout: usize,
-    pub levels: usize,
-    pub table: [usize; 50],
-    // what comes next: a level by its distance from the leaves, 1 where its count has come, a box of it by its index
-    pub level: usize,
-    pub counted: usize,
-    pub index: usize,
-    // where the level's boxes go in the work buffer, and where those of the level above it stand
-    pub own: usize,
-    pub parents: usize,
-    // the bytes of all that came whole; and of a number or box that came in part, how many bytes, and which
-    pub done: u64,
-    pub kept: usize,
+    pub cursor: Cursor,
+    // the bytes of a number or box that came in part
     pub held: [u8; 64],
-    // the first fault of a box
-    pub box_number: u64,
-    pub box_place: u64,
 }
 
 // Takes the footer and the stated length of the body.
@@ -87,45 +96,46 @@ pub fn start(description: Description, file_size: u64, footer: &[u8], stated: u6
 pub fn block(parts: Parts, work: &mut [u8], bytes: &[u8]) -> Parts
     ensures { λ r. ⌜ Carries parts (now (work .entry)) (now (bytes .entry)) r (now (work .exit)) ⌝ }
 {
-    if parts.number != 0 {
+    let c = parts.cursor;
+    if c.number != 0 {
         return parts;
     }
-    let room = room_left(parts.stated, parts.done, parts.kept);
-    if (bytes.len() as u64) <= room {
-        return take(parts, work, bytes);
+    let room = room_left(parts.stated, c.done, c.kept);
+    let all = least(room as usize, bytes.len());
+    let mut held = parts.held;
+    let r = take(parts, c, &mut held, work, &bytes[..all]);
+    if both(all < bytes.len(), r.number == 0) {
+        let over = refuse(r, Refusal::BYTES, parts.stated, 1);
+        return with_cursor(parts, over, held);
     }
-    let all = room as usize;
-    let s = take(parts, work, &bytes[..all]);
-    if s.number != 0 {
-        return s;
-    }
-    refuse(s, Refusal::BYTES, s.stated, 1)
+    with_cursor(parts, r, held)
 }
 
 // What all blocks came to.
 pub fn finish(parts: Parts, work: &[u8]) -> Opened
     ensures { λ r. ⌜ Answers parts (now (work .entry)) r ⌝ }
 {
-    if parts.number != 0 {
-        return refused_in(parts.which, parts.number, parts.place);
+    let c = parts.cursor;
+    if c.number != 0 {
+        return refused_in(c.which, c.number, c.place);
     }
-    if parts.fanout == 0 {
+    if c.fanout == 0 {
         return finish_front(parts, work.len());
     }
-    let room = room_left(parts.stated, parts.done, parts.kept);
+    let room = room_left(parts.stated, c.done, c.kept);
     if 0 < room {
         return refused_in(1, Refusal::BYTES, parts.stated - room);
     }
-    if parts.box_number != 0 {
-        return refused_in(1, parts.box_number, parts.box_place);
+    if c.box_number != 0 {
+        return refused_in(1, c.box_number, c.box_place);
     }
     Opened {
         number: 0,
         place: 0,
         which: 0,
         tiles: parts.tiles,
-        fanout: parts.fanout as u64,
-        levels: parts.levels as u64,
+        fanout: c.fanout as u64,
+        levels: c.levels as u64,
     }
 }
 
@@ -158,7 +168,8 @@ fn finish_front(parts: Parts, room: usize) -> Opened
 {
     let held = parts.held;
     let fanout = order::u32_at(&held, 0) as usize;
-    let kept = parts.kept;
+    let c = parts.cursor;
+    let kept = c.kept;
     let box_bytes = parts.description.box_bytes();
     let told = check_front(parts.tiles, box_bytes, parts.stated, room, kept, fanout, 0);
     if told.number != 0 {
@@ -198,95 +209,124 @@ fn begun(
 ) -> Parts
     ensures { λ r. ⌜ r ≡ begun description number place which tiles domain stated ⌝ }
 {
-    Parts {
+    let cursor = Cursor {
         number: number,
         place: place,
         which: which,
-        description: description,
-        tiles: tiles,
-        domain: domain,
-        stated: stated,
         fanout: 0,
         levels: 0,
-        table: [0usize; 50],
         level: 0,
         counted: 0,
+        count: 0,
         index: 0,
         own: 0,
         parents: 0,
         done: 0,
         kept: 0,
-        held: [0u8; 64],
         box_number: 0,
         box_place: 0,
+    };
+    Parts {
+        description: description,
+        tiles: tiles,
+        domain: domain,
+        stated: stated,
+        cursor: cursor,
+        held: [0u8; 64],
+    }
+}
+
+fn with_cursor(parts: Parts, cursor: Cursor, held: [u8; 64]) -> Parts
+    ensures { λ r. ⌜ r ≡ withCursor parts held cursor ⌝ }
+{
+    let description = parts.description;
+    let domain = parts.domain;
+    Parts {
+        description: description,
+        tiles: parts.tiles,
+        domain: domain,
+        stated: parts.stated,
+        cursor: cursor,
+        held: held,
     }
 }
 
 // Refused for good.
-fn refuse(parts: Parts, number: u64, place: u64, which: u64) -> Parts
-    ensures { λ r. ⌜ r ≡ refused parts which number place ⌝ }
+fn refuse(cursor: Cursor, number: u64, place: u64, which: u64) -> Cursor
+    ensures { λ r. ⌜ r ≡ refused cursor which number place ⌝ }
 {
-    let mut s = parts;
-    s.number = number;
-    s.place = place;
-    s.which = which;
-    s
+    let mut c = cursor;
+    c.number = number;
+    c.place = place;
+    c.which = which;
+    c
 }
 
 // With so many bytes held of what comes next.
-fn holding(parts: Parts, held: [u8; 64], kept: usize) -> Parts
-    ensures { λ r. ⌜ r ≡ holding parts held kept ⌝ }
+fn keep(cursor: Cursor, kept: usize) -> Cursor
+    ensures { λ r. ⌜ r ≡ keeping cursor kept ⌝ }
 {
-    let mut s = parts;
-    s.held = held;
-    s.kept = kept;
-    s
+    let mut c = cursor;
+    c.kept = kept;
+    c
 }
 
 // Past the fanout and L, at the root's count.
-fn fronted(parts: Parts, fanout: usize, levels: usize, table: [usize; 50], level: usize) -> Parts
-    ensures { λ r. ⌜ r ≡ fronted parts fanout levels table level ⌝ }
+fn fronted(cursor: Cursor, fanout: usize, levels: usize, level: usize) -> Cursor
+    ensures { λ r. ⌜ r ≡ fronted cursor fanout levels level ⌝ }
 {
-    let mut s = parts;
-    s.fanout = fanout;
-    s.levels = levels;
-    s.table = table;
-    s.level = level;
-    s.counted = 0;
-    s.index = 0;
-    s.own = 0;
-    s.parents = 0;
-    s.done = 8;
-    s.box_number = 0;
-    s.box_place = 0;
-    s
+    let mut c = cursor;
+    c.fanout = fanout;
+    c.levels = levels;
+    c.level = level;
+    c.counted = 0;
+    c.count = 0;
+    c.index = 0;
+    c.own = 0;
+    c.parents = 0;
+    c.done = 8;
+    c.box_number = 0;
+    c.box_place = 0;
+    c
 }
 
-// Past a level's count, or some of its boxes, at box `index` of it.
-fn moved(parts: Parts, index: usize, done: u64, fault: Refusal) -> Parts
-    ensures { λ r. ⌜ r ≡ moved parts index done fault ⌝ }
+// Past a level's count, at its first box.
+fn counted(cursor: Cursor, count: usize, done: u64) -> Cursor
+    ensures { λ r. ⌜ r ≡ counted cursor count done ⌝ }
 {
-    let mut s = parts;
-    s.counted = 1;
-    s.index = index;
-    s.done = done;
-    s.box_number = fault.number;
-    s.box_place = fault.place;
-    s
+    let mut c = cursor;
+    c.counted = 1;
+    c.count = count;
+    c.index = 0;
+    c.done = done;
+    c
+}
+
+// Past some boxes of a level, at box `index` of it.
+fn moved(cursor: Cursor, index: usize, done: u64, fault: Refusal) -> Cursor
+    ensures { λ r. ⌜ r ≡ moved cursor index done fault ⌝ }
+{
+    let mut c = cursor;
+    c.index = index;
+    c.done = done;
+    c.box_number = fault.number;
+    c.box_place = fault.place;
+    c
 }
 
 // Past a level's last box, at the count of the level below, whose boxes go to `own` of the work buffer.
-fn lowered(parts: Parts, own: usize) -> Parts
-    requires { ⌜ 0 < parts .level ⌝ }
-    ensures { λ r. ⌜ r ≡ lowered parts own ⌝ }
+fn lowered(cursor: Cursor, own: usize) -> Cursor
+    requires { ⌜ 0 < cursor .level ⌝ }
+    ensures { λ r. ⌜ r ≡ lowered cursor own ⌝ }
 {
-    let mut s = parts;
-    s.level = parts.level - 1;
-    s.counted = 0;
-    s.index = 0;
-    s.parents = parts.own;
-    s.own = own;
-    s
+    let mut c = cursor;
+    c.level = cursor.level - 1;
+    c.counted = 0;
+    c.count = 0;
+    c.index = 0;
+    c.parents = cursor.own;
+    c.own = own;
+    c
 }
 
 // The bytes that are still to come.
@@ -305,165 +345,162 @@ fn room_left(stated: u64, done: u64, kept: usize) -> u64
 
 // Bytes within the stated length, number by number and row by row. A state that is not the last call's may be out of
 // range, or stay where it is, or pass by more than is there: then no more is done.
-fn take(parts: Parts, work: &mut [u8], bytes: &[u8]) -> Parts
-    requires { ⌜ parts .number ≡ 0 ⌝ }
-    ensures { λ r. ⌜ (length (now (work .exit)) ≡ length (now (work .entry)))
-        × Takes parts (now (work .entry)) (now (bytes .entry)) r (now (work .exit)) ⌝ }
+fn take(parts: Parts, cursor: Cursor, held: &mut [u8], work: &mut [u8], bytes: &[u8]) -> Cursor
+    requires { ⌜ cursor .number ≡ 0 ⌝ }
+    requires { ⌜ length (now held) ≡ 64 ⌝ }
+    ensures { λ r. ⌜ SameRoom (now (held .entry)) (now (work .entry)) (now (held .exit)) (now (work .exit))
+        × Takes (withCursor parts (now (held .entry)) cursor) (now (work .entry)) (now (bytes .entry))
+        (withCursor parts (now (held .exit)) r) (now (work .exit)) ⌝ }
 {
-    let mut s = parts;
+    let stated = parts.stated;
+    let box_bytes = parts.description.box_bytes();
+    let mut c = cursor;
     let mut at: usize = 0;
     while at < bytes.len() {
         let left = bytes.len() - at;
-        if !in_range(s, left) {
-            return s;
+        if !in_range(stated, box_bytes, c, left) {
+            return c;
         }
-        let before = room_left(s.stated, s.done, s.kept);
-        s = step(s, work, &bytes[at..]);
-        if s.number != 0 {
-            return s;
+        let before = room_left(stated, c.done, c.kept);
+        c = step(parts, box_bytes, c, held, work, &bytes[at..]);
+        if c.number != 0 {
+            return c;
         }
-        let after = room_left(s.stated, s.done, s.kept);
+        let after = room_left(stated, c.done, c.kept);
         if before <= after {
-            return s;
+            return c;
         }
         let more = before - after;
         if (left as u64) < more {
-            return s;
+            return c;
         }
         at += more as usize;
     }
-    s
+    c
 }
 
 // Whether a step over so many bytes is safe; from a state that the last call left it is.
-fn in_range(parts: Parts, left: usize) -> bool
-    ensures { λ r. ⌜ (r ≡ true → InRange parts left) × (InRange parts left → r ≡ true) ⌝ }
+fn in_range(stated: u64, box_bytes: usize, c: Cursor, left: usize) -> bool
+    ensures { λ r. ⌜ (r ≡ true → InRange stated «box_bytes» c left) × (InRange stated «box_bytes» c left → r ≡ true) ⌝ }
 {
-    let level = parts.level;
-    if 24 < level {
+    if Description::MOST_TILES < c.count as u64 {
         return false;
     }
-    let count = count_in(parts);
-    if Description::MOST_TILES < count as u64 {
+    if c.count < c.index {
         return false;
     }
-    if count < parts.index {
+    if (Description::MOST_FANOUT as usize) < c.fanout {
         return false;
     }
-    if (Description::MOST_FANOUT as usize) < parts.fanout {
+    if MOST_WORK < c.own {
         return false;
     }
-    if MOST_WORK < parts.own {
+    if MOST_WORK < c.parents {
         return false;
     }
-    if MOST_WORK < parts.parents {
+    if item_bytes(box_bytes, c.counted) <= c.kept {
         return false;
     }
-    if item_bytes(parts) <= parts.kept {
-        return false;
-    }
-    if room_left(parts.stated, parts.done, parts.kept) < left as u64 {
+    if room_left(stated, c.done, c.kept) < left as u64 {
         return false;
     }
     true
 }
 
-// The count of the level that comes next.
-fn count_in(parts: Parts) -> usize
-    requires { ⌜ parts .level ≤ 24 ⌝ }
-    ensures { λ r. ⌜ r ≡ countIn parts ⌝ }
-{
-    let level = parts.level;
-    let table = parts.table;
-    table[2 * level + 1]
-}
-
 // The bytes of what comes next: the fanout and L together, a count, or a box.
-fn item_bytes(parts: Parts) -> usize
-    ensures { λ r. ⌜ r ≡ itemBytes parts ⌝ }
+fn item_bytes(box_bytes: usize, counted: usize) -> usize
+    ensures { λ r. ⌜ r ≡ itemBytes «box_bytes» counted ⌝ }
 {
-    if parts.counted == 0 {
-        return 8;
-    }
-    parts.description.box_bytes()
+    if counted == 0 { 8 } else { box_bytes }
 }
 
-// Takes at least one byte: as much as is there of what comes next, and of boxes as many of the level as are there.
-fn step(parts: Parts, work: &mut [u8], bytes: &[u8]) -> Parts
-    requires { ⌜ InRange parts (length (now bytes)) ⌝ }
+// Takes at least one byte: as much as is there of what comes next, and of boxes as many of the level as are there. What
+// is held in part, or there in part, is taken from the held bytes once it is whole.
+fn step(
+    parts: Parts,
+    box_bytes: usize,
+    cursor: Cursor,
+    held: &mut [u8],
+    work: &mut [u8],
+    bytes: &[u8],
+) -> Cursor
+    requires { ⌜ «box_bytes» ≡ boxBytes (parts .description) ⌝ }
+    requires { ⌜ InRange (parts .stated) «box_bytes» cursor (length (now bytes)) ⌝ }
     requires { ⌜ 0 < length (now bytes) ⌝ }
-    requires { ⌜ parts .number ≡ 0 ⌝ }
-    ensures { λ r. ⌜ (length (now (work .exit)) ≡ length (now (work .entry)))
-        × TakesSome parts (now (work .entry)) (now (bytes .entry)) r (now (work .exit)) ⌝ }
+    requires { ⌜ cursor .number ≡ 0 ⌝ }
+    requires { ⌜ length (now held) ≡ 64 ⌝ }
+    ensures { λ r. ⌜ SameRoom (now (held .entry)) (now (work .entry)) (now (held .exit)) (now (work .exit))
+        × TakesSome (withCursor parts (now (held .entry)) cursor) (now (work .entry)) (now (bytes .entry))
+        (withCursor parts (now (held .exit)) r) (now (work .exit)) ⌝ }
 {
-    let item = item_bytes(parts);
-    if 0 < parts.kept {
-        return hold(parts, work, bytes, item);
+    let item = item_bytes(box_bytes, cursor.counted);
+    let have = gather(held, cursor.kept, bytes, item);
+    if both(0 < have, have < item) {
+        return keep(cursor, have);
     }
-    if bytes.len() < item {
-        return hold(parts, work, bytes, item);
+    let from = whole_of(held, bytes, have, item);
+    let c = keep(cursor, 0);
+    if c.counted == 0 {
+        return take_number(parts, box_bytes, c, work.len(), &from[..8]);
     }
-    if parts.counted == 0 {
-        return take_number(parts, work.len(), &bytes[..8]);
+    if c.count <= c.index {
+        return c;
     }
-    let count = count_in(parts);
-    if count <= parts.index {
-        return parts;
-    }
-    let boxes = least(count - parts.index, bytes.len() / item);
-    let whole = boxes * item;
-    take_boxes(parts, work, &bytes[..whole], boxes)
+    let boxes = least(c.count - c.index, from.len() / box_bytes);
+    let whole = boxes * box_bytes;
+    take_boxes(parts, box_bytes, c, work, &from[..whole], boxes)
 }
 
-// What comes next is there in part, or is held in part: it is taken from the held bytes once it is whole.
-fn hold(parts: Parts, work: &mut [u8], bytes: &[u8], item: usize) -> Parts
-    requires { ⌜ InRange parts (length (now bytes)) ⌝ }
+// Holds what is there of what comes next, after what is held of it already, and tells how many bytes of it are held
+// then; 0, and nothing is held, where it stands whole in the block.
+fn gather(held: &mut [u8], kept: usize, bytes: &[u8], item: usize) -> usize
+    requires { ⌜ kept < item ⌝ }
+    requires { ⌜ item ≤ length (now held) ⌝ }
     requires { ⌜ 0 < length (now bytes) ⌝ }
-    requires { ⌜ parts .number ≡ 0 ⌝ }
-    requires { ⌜ item ≡ itemBytes parts ⌝ }
-    ensures { λ r. ⌜ (length (now (work .exit)) ≡ length (now (work .entry)))
-        × TakesSome parts (now (work .entry)) (now (bytes .entry)) r (now (work .exit)) ⌝ }
+    ensures { λ r. ⌜ Gathered (now (held .entry)) kept (now (bytes .entry)) item r (now (held .exit)) ⌝ }
 {
-    let kept = parts.kept;
+    if both(kept == 0, item <= bytes.len()) {
+        return 0;
+    }
     let more = least(item - kept, bytes.len());
-    let mut held = parts.held;
-    put(&mut held, kept, &bytes[..more]);
-    if kept + more < item {
-        return holding(parts, held, kept + more);
+    put(held, kept, &bytes[..more]);
+    kept + more
+}
+
+// The bytes from which what comes next is taken: those that are held of it, or the block's.
+fn whole_of<'a>(held: &'a [u8], bytes: &'a [u8], have: usize, item: usize) -> &'a [u8]
+    requires { ⌜ item ≤ length (now held) ⌝ }
+    ensures { λ r. ⌜ now r ≡ cond (eqb have 0) (now (bytes .entry)) (take item (now (held .entry))) ⌝ }
+{
+    if have == 0 {
+        return bytes;
     }
-    let s = holding(parts, held, 0);
-    if parts.counted == 0 {
-        return take_number(s, work.len(), &held[..8]);
-    }
-    let count = count_in(parts);
-    if count <= parts.index {
-        return s;
-    }
-    take_boxes(s, work, &held[..item], 1)
+    &held[..item]
 }
 
 // The fanout and L, or a count.
-fn take_number(parts: Parts, room: usize, bytes: &[u8]) -> Parts
-    requires { ⌜ InRange parts (length (now bytes)) ⌝ }
+fn take_number(parts: Parts, box_bytes: usize, cursor: Cursor, room: usize, bytes: &[u8]) -> Cursor
+    requires { ⌜ «box_bytes» ≡ boxBytes (parts .description) ⌝ }
+    requires { ⌜ InRange (parts .stated) «box_bytes» cursor (length (now bytes)) ⌝ }
     requires { ⌜ length (now bytes) ≡ 8 ⌝ }
-    requires { ⌜ parts .counted ≡ 0 ⌝ }
-    ensures { λ r. ⌜ ((work : List ℕ) → length work ≡ room → TakesItem parts work (now (bytes .entry)) r work) ⌝ }
+    requires { ⌜ cursor .counted ≡ 0 ⌝ }
+    ensures { λ r. ⌜ TakesNumber parts room cursor (now (bytes .entry)) r ⌝ }
 {
-    if parts.fanout == 0 {
-        return take_front(parts, room, bytes);
+    if cursor.fanout == 0 {
+        return take_front(parts, box_bytes, cursor, room, bytes);
     }
-    take_count(parts, bytes)
+    take_count(parts, box_bytes, cursor, room, bytes)
 }
 
 // The fanout and L.
-fn take_front(parts: Parts, room: usize, bytes: &[u8]) -> Parts
+fn take_front(parts: Parts, box_bytes: usize, cursor: Cursor, room: usize, bytes: &[u8]) -> Cursor
+    requires { ⌜ «box_bytes» ≡ boxBytes (parts .description) ⌝ }
     requires { ⌜ length (now bytes) ≡ 8 ⌝ }
-    requires { ⌜ parts .fanout ≡ 0 ⌝ }
-    ensures { λ r. ⌜ ((work : List ℕ) → length work ≡ room → TakesItem parts work (now (bytes .entry)) r work) ⌝ }
+    requires { ⌜ cursor .fanout ≡ 0 ⌝ }
+    ensures { λ r. ⌜ TakesNumber parts room cursor (now (bytes .entry)) r ⌝ }
 {
     let fanout = order::u32_at(bytes, 0) as usize;
     let levels = order::u32_at(bytes, 4) as usize;
-    let box_bytes = parts.description.box_bytes();
     let told = check_front(
         parts.tiles,
         box_bytes,
@@ -474,14 +511,12 @@ fn take_front(parts: Parts, room: usize, bytes: &[u8]) -> Parts
         levels,
     );
     if told.number != 0 {
-        return refuse(parts, told.number, told.place, which_of(told.number));
+        return refuse(cursor, told.number, told.place, which_of(told.number));
     }
-    let shape = tree::shape_of(parts.tiles as usize, fanout, box_bytes);
-    if shape.levels == 0 {
-        return parts;
+    if levels == 0 {
+        return cursor;
     }
-    let table = shape.table;
-    fronted(parts, fanout, levels, table, shape.levels - 1)
+    fronted(cursor, fanout, levels, levels - 1)
 }
 
 // The shape before the counts, and the work buffer's room, as far as so many bytes show them.
@@ -528,81 +563,89 @@ fn inner_boxes(boxes: usize, tiles: usize) -> usize
 }
 
 // A level's count.
-fn take_count(parts: Parts, bytes: &[u8]) -> Parts
-    requires { ⌜ InRange parts (length (now bytes)) ⌝ }
+fn take_count(parts: Parts, box_bytes: usize, cursor: Cursor, room: usize, bytes: &[u8]) -> Cursor
+    requires { ⌜ «box_bytes» ≡ boxBytes (parts .description) ⌝ }
+    requires { ⌜ InRange (parts .stated) «box_bytes» cursor (length (now bytes)) ⌝ }
     requires { ⌜ length (now bytes) ≡ 8 ⌝ }
-    requires { ⌜ parts .counted ≡ 0 ⌝ }
-    requires { ⌜ 0 < parts .fanout ⌝ }
-    ensures { λ r. ⌜ ((work : List ℕ) → TakesItem parts work (now (bytes .entry)) r work) ⌝ }
+    requires { ⌜ cursor .counted ≡ 0 ⌝ }
+    requires { ⌜ 0 < cursor .fanout ⌝ }
+    ensures { λ r. ⌜ TakesNumber parts room cursor (now (bytes .entry)) r ⌝ }
 {
-    let count = count_in(parts);
-    if order::u64_at(bytes, 0) != count as u64 {
-        return refuse(parts, Refusal::LEVELS, parts.done, 1);
+    let level = cursor.level;
+    if 24 < level {
+        return cursor;
     }
-    let fault = Refusal::new(parts.box_number, parts.box_place);
-    moved(parts, 0, parts.done + 8, fault)
+    let shape = tree::shape_of(parts.tiles as usize, cursor.fanout, box_bytes);
+    let table = shape.table;
+    let count = table[2 * level + 1];
+    if order::u64_at(bytes, 0) != count as u64 {
+        return refuse(cursor, Refusal::LEVELS, cursor.done, 1);
+    }
+    counted(cursor, count, cursor.done + 8)
 }
 
 // So many boxes of a level: each against its parent, and then into the work buffer unless they are leaves.
-fn take_boxes(parts: Parts, work: &mut [u8], bytes: &[u8], boxes: usize) -> Parts
-    requires { ⌜ InRange parts (length (now bytes)) ⌝ }
-    requires { ⌜ length (now bytes) ≡ boxes * boxBytes (parts .description) ⌝ }
-    requires { ⌜ boxes ≤ countIn parts - parts .index ⌝ }
-    requires { ⌜ 0 < parts .counted ⌝ }
+fn take_boxes(
+    parts: Parts,
+    box_bytes: usize,
+    cursor: Cursor,
+    work: &mut [u8],
+    bytes: &[u8],
+    boxes: usize,
+) -> Cursor
+    requires { ⌜ RunOf parts «box_bytes» cursor (now bytes) boxes ⌝ }
     requires { ⌜ 0 < boxes ⌝ }
-    ensures { λ r. ⌜ (length (now (work .exit)) ≡ length (now (work .entry)))
-        × TakesItem parts (now (work .entry)) (now (bytes .entry)) r (now (work .exit)) ⌝ }
+    ensures { λ r. ⌜ (length (now (work .exit)) ≡ length (now (work .entry))) × ((held : List ℕ)
+        → TakesItem (withCursor parts held cursor) (now (work .entry)) (now (bytes .entry)) (withCursor parts held r)
+        (now (work .exit))) ⌝ }
 {
-    let fault = check_boxes(parts, work, bytes, boxes);
-    let count = count_in(parts);
-    let index = parts.index;
-    let to = parts.own + index * parts.description.box_bytes();
-    store(work, parts.level, to, bytes);
+    let fault = check_boxes(parts, box_bytes, cursor, work, bytes, boxes);
+    let index = cursor.index;
+    let to = cursor.own + index * box_bytes;
+    store(work, cursor.level, to, bytes);
     let len = bytes.len();
-    let s = moved(parts, index + boxes, parts.done + len as u64, fault);
-    pass(s, count, to + len)
+    let c = moved(cursor, index + boxes, cursor.done + len as u64, fault);
+    pass(c, to + len)
 }
 
 // Past a level's last box.
-fn pass(parts: Parts, count: usize, own: usize) -> Parts
-    ensures { λ r. ⌜ r ≡ passed parts count own ⌝ }
+fn pass(cursor: Cursor, own: usize) -> Cursor
+    ensures { λ r. ⌜ r ≡ passed cursor own ⌝ }
 {
-    if parts.index < count {
-        return parts;
+    if cursor.index < cursor.count {
+        return cursor;
     }
-    if parts.level == 0 {
-        return parts;
+    if cursor.level == 0 {
+        return cursor;
     }
-    lowered(parts, own)
+    lowered(cursor, own)
 }
 
 // The first fault of a box so far.
-fn check_boxes(parts: Parts, work: &[u8], bytes: &[u8], boxes: usize) -> Refusal
-    requires { ⌜ InRange parts (length (now bytes)) ⌝ }
-    requires { ⌜ length (now bytes) ≡ boxes * boxBytes (parts .description) ⌝ }
-    requires { ⌜ boxes ≤ countIn parts - parts .index ⌝ }
-    requires { ⌜ 0 < parts .counted ⌝ }
-    ensures { λ r. ⌜ (0 < parts .fanout → r ≡ otherwise (refusal (parts .«box_number») (parts .«box_place»))
-        (runCheck parts (now (work .entry)) (now (bytes .entry)) boxes)) ⌝ }
+fn check_boxes(
+    parts: Parts,
+    box_bytes: usize,
+    cursor: Cursor,
+    work: &[u8],
+    bytes: &[u8],
+    boxes: usize,
+) -> Refusal
+    requires { ⌜ RunOf parts «box_bytes» cursor (now bytes) boxes ⌝ }
+    ensures { λ r. ⌜ (0 < cursor .fanout → r ≡ otherwise (refusal (cursor .«box_number») (cursor .«box_place»))
+        (runCheck parts cursor (now (work .entry)) (now (bytes .entry)) boxes)) ⌝ }
 {
-    if parts.box_number != 0 {
-        return Refusal::new(parts.box_number, parts.box_place);
+    if cursor.box_number != 0 {
+        return Refusal::new(cursor.box_number, cursor.box_place);
     }
     let d = parts.description;
-    let box_bytes = d.box_bytes();
-    if parts.done == 16 {
+    if cursor.done == 16 {
         let domain = parts.domain;
         let kinds = d.kinds;
-        let told = boxes::check_row(
-            bytes,
-            kinds,
-            d.dimensions,
-            &domain[..box_bytes],
-            Refusal::OUTSIDE_DOMAIN,
-        );
+        let outer = &domain[..box_bytes];
+        let told = boxes::check_row(bytes, kinds, d.dimensions, outer, Refusal::OUTSIDE_DOMAIN);
         return placed(told, 16);
     }
-    if parts.fanout == 0 {
+    if cursor.fanout == 0 {
         return Refusal::none();
     }
     let told = check_rows(
@@ -610,12 +653,12 @@ fn check_boxes(parts: Parts, work: &[u8], bytes: &[u8], boxes: usize) -> Refusal
         bytes,
         d,
         box_bytes,
-        parts.fanout,
-        parts.parents,
-        parts.index,
+        cursor.fanout,
+        cursor.parents,
+        cursor.index,
         boxes,
     );
-    placed(told, parts.done)
+    placed(told, cursor.done)
 }
 
 // A refusal that is placed from a start on.

@@ -6,7 +6,7 @@ use crate::guard::Space;
 use crate::rules::{self, refusal, Description};
 use std::collections::BTreeMap;
 
-const STATE: usize = 201;
+const STATE: usize = 40;
 
 extern "C" {
     fn tussockbell_parts_start(

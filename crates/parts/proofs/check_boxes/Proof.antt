@@ -2,7 +2,6 @@
 -- Assumes nothing.
 use mathlib.Core.Path.{_≡_, refl, sym, ap, _∙_}
 use Prim.Native.Nat.{ℕ, _+_, _-_, _*_, _≤_, _<_}
-use native.Mathlib.Nat.{mul-le-mul-right}
 use native.Mathlib.Omega.{arith}
 use lib.ListN.{length, take, length-take, length-map}
 use borrow.Author.Needs.{needs}
@@ -19,53 +18,49 @@ returns : tie.Need-returns
 returns c = λ _. c .new .ensures ∙ sym (halt _ _ (c .before .if1 .taken))
 
 -- a box has bytes
-some-bytes : (c : tie.Start) → 0 < boxBytes (c .args .parts .description)
+some-bytes : (c : tie.Start) → 0 < c .args .box-bytes
 some-bytes c =
-    let counted = c .pre .1 .1 .1 in
-    omega (arith, rw (ne-eqb (c .args .parts .counted) 0 (λ e. omega (arith, counted))) at (c .pre .0 .part))
+    let counted = c .pre .counted in
+    omega (arith, rw (ne-eqb (c .args .cursor .counted) 0 (λ e. omega (arith, counted))) at (c .pre .range .part))
 
 -- the domain has room for a box
 domain-length : (c : tie.Start) → length (c .args .parts .domain) ≡ 64
-domain-length c = sym (length-map (c .args .parts .domain) (λ v. v)) ∙ c .good .0 .1 .1 .1 .1 .1 .1 .1 .0 .1 .0 .1
+domain-length c = sym (length-map (c .args .parts .domain) (λ v. v)) ∙ c .good .0 .1 .1 .1 .1 .0 .1 .0 .1
 
-box-fits : (c : tie.After-box-bytes) → c .box-bytes .result ≤ length (c .before .before .before .before .before .before .args .parts .domain)
-box-fits c =
-    let s = c .before .before .before .before .before .before in
-    omega (arith, c .box-bytes .ensures, box-bytes-most (s .args .parts .description), domain-length s)
+box-fits : (c : tie.Start) → c .args .box-bytes ≤ length (c .args .parts .domain)
+box-fits c = omega (arith, c .pre .width, box-bytes-most (c .args .parts .description), domain-length c)
 
 placed-requires : tie.Need-placed-requires
 placed-requires c κs =
-    let s = c .before .before .before .before .before .before .before .before .before .before .before .before in
+    let s = c .before .before .before .before .before .before .before .before .before .before .before in
     let x = s .args in
     let told = rw (← (c .check-row .ensures)) at (row-before (x .parts .description .kinds) (sidesOf (x .parts .description .dimensions))
-    (take (c .before .before .before .before .before .before .box-bytes .result) (x .parts .domain)) refusals.outsideDomain (x .bytes .now)) in
-    omega (arith, told, c .before .before .before .before .if2 .taken, s .pre .0 .room, c .before .before .before .before .before .struct-known2 .given)
+    (take (x .box-bytes) (x .parts .domain)) refusals.outsideDomain (x .bytes .now)) in
+    omega (arith, told, c .before .before .before .before .if2 .taken, s .pre .range .room, c .before .before .before .before .before .struct-known2 .given)
 
 returns-2 : tie.Need-returns-2
 returns-2 c = λ _.
-    let k = c .before in
-    let t = c .before .before .before .before .before in
-    let none = c .before .before .before .before .before .before .before .before .before .if1 .left in
+    let s = c .before .before .before .before .before .before .before .before .before .before .before .before in
+    let none = c .before .before .before .before .before .before .before .before .if1 .left in
     c .placed .ensures
-    ∙ sym (go-on (refusals.refusal _ _) _ none ∙ rw (eq-eqb _ 16 (t .if2 .taken), k .check-row .ensures, t .before .before .box-bytes .ensures))
+    ∙ sym (go-on (refusals.refusal _ _) _ none ∙ rw (eq-eqb _ 16 (c .before .before .before .before .before .if2 .taken), c .before .check-row .ensures, s .pre .width))
 
 returns-3 : tie.Need-returns-3
 returns-3 c = λ some. absurd (omega (arith, c .before .if3 .taken))
 
 check-rows-requires : tie.Need-check-rows-requires
 check-rows-requires c κs =
-    let b = c .before .before .before .before in
-    let s = c .before .before .before .before .before .before .before .before .before .before in
-    let own = b .box-bytes .ensures in
-    let r = s .pre .0 in (
+    let s = c .before .before .before .before .before .before .before .before .before in
+    let own = s .pre .width in
+    let r = s .pre .range in (
       own,
       (
-        rw own (some-bytes s),
+        some-bytes s,
         (
           rw own (box-bytes-most (s .args .parts .description)),
           (
-            rw own (s .pre .1 .0),
-            (omega (arith, s .pre .1 .1 .0, r .most, r .within), (omega (arith, c .if3 .left), (r .fanout, r .parents))),
+            s .pre .size,
+            (omega (arith, s .pre .few, r .most, r .within), (omega (arith, c .if3 .left), (r .fanout, r .parents))),
           ),
         ),
       ),
@@ -73,16 +68,14 @@ check-rows-requires c κs =
 
 placed-requires-2 : tie.Need-placed-requires-2
 placed-requires-2 c κs =
-    let s = c .before .before .before .before .before .before .before .before .before .before .before in
-    omega (arith, c .check-rows .ensures .1, s .pre .0 .room, c .before .before .struct-known3 .given)
+    let s = c .before .before .before .before .before .before .before .before .before .before in
+    omega (arith, c .check-rows .ensures .1, s .pre .range .room, c .before .before .struct-known3 .given)
 
 returns-4 : tie.Need-returns-4
 returns-4 c = λ _.
-    let k = c .before in
-    let e = c .before .before .before .before in
-    let none = c .before .before .before .before .before .before .before .before .if1 .left in
+    let none = c .before .before .before .before .before .before .before .if1 .left in
     c .placed2 .ensures
-    ∙ sym (go-on (refusals.refusal _ _) _ none ∙ rw (ne-eqb _ 16 (e .if2 .left), k .check-rows .ensures .0))
+    ∙ sym (go-on (refusals.refusal _ _) _ none ∙ rw (ne-eqb _ 16 (c .before .before .before .before .if2 .left), c .before .check-rows .ensures .0))
 
 pub check-boxes-spec : {M : Type 1} → statement M
 check-boxes-spec =
@@ -90,9 +83,8 @@ check-boxes-spec =
     (tie.spec
     (λ c κs. search needs)
     returns
-    (λ c κs. search needs)
-    (λ c. box-fits (c .before .before .before .before))
-    (λ c. rw length-take (omega (arith, box-fits (c .before .before .before .before .before))))
+    (λ c. box-fits (c .before .before .before .before .before .before .before .before .before))
+    (λ c. rw length-take (omega (arith, box-fits (c .before .before .before .before .before .before .before .before .before .before))))
     (λ c κs. search needs)
     placed-requires
     returns-2

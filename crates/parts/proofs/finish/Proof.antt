@@ -20,7 +20,7 @@ returns c = λ d F footer stated got took.
 returns-2 : tie.Need-returns-2
 unfolding Took
 returns-2 c = λ d F footer stated got took.
-    let s = c .before .before .before .before .before .before in
+    let s = c .before .before .before .before .before .before .before in
     c .finish-front .ensures d F footer stated got (s .args .work .now) (c .before .if2 .taken) refl
     (took got (take-length got) .going (c .before .before .before .if1 .left))
 
@@ -30,7 +30,7 @@ returns-3 c = λ d F footer stated got took.
     let t = c .before .before in
     let k = t .before in
     let g = took got (take-length got) .going (k .before .before .before .if1 .left) in
-    let place : k .before .before .before .before .before .before .args .parts .stated - k .room-left .result ≡ length got =
+    let place : k .before .before .before .before .before .before .before .args .parts .stated - k .room-left .result ≡ length got =
     omega (arith, k .room-left .ensures, g .here, g .said, g .within) in
     c .refused-in2 .ensures
     ∙ rw place

@@ -11,13 +11,13 @@ use Rattle.parts.proofs.finish_front.Statement.{statement}
 use Rattle.parts.proofs.finish_front.Tie as tie
 
 check-front-requires : tie.Need-check-front-requires
-check-front-requires c κs = rw (c .box-bytes .ensures) (box-bytes-most (c .before .before .before .before .args .parts .description))
+check-front-requires c κs = rw (c .box-bytes .ensures) (box-bytes-most (c .before .before .before .before .before .args .parts .description))
 
 returns : tie.Need-returns
 returns c = λ d F footer stated body work blank size g.
     let k = c .before .before .before .before in
     let b = k .before in
-    let u = b .before in
+    let u = b .before .before in
     c .refused-in .ensures
     ∙ rw (c .before .which-of .ensures)
     (sym (front-ends-refused g blank size (b .box-bytes .ensures) (u .u32-at .ensures) (k .check-front .ensures) (c .before .before .if1 .taken)))
@@ -26,7 +26,7 @@ returns-2 : tie.Need-returns-2
 returns-2 c = λ d F footer stated body work blank size g.
     let k = c .before .before .before in
     let b = k .before in
-    let u = b .before in
+    let u = b .before .before in
     c .refused-in2 .ensures
     ∙ sym (front-ends-short g blank size (b .box-bytes .ensures) (u .u32-at .ensures) (k .check-front .ensures) (c .before .if1 .left))
 

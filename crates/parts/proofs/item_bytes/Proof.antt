@@ -1,6 +1,4 @@
 -- `parts::item_bytes` meets its contract: its test is the definition's. Assumes nothing.
-use mathlib.Core.Path.{sym, _∙_}
-use borrow.Author.Needs.{needs}
 use borrow.Author.Tests.{eq-eqb, ne-eqb}
 use Rattle.parts.proofs.item_bytes.Statement.{statement}
 use Rattle.parts.proofs.item_bytes.Tie as tie
@@ -9,7 +7,7 @@ returns : tie.Need-returns
 returns c = rw (eq-eqb _ 0 (c .if1 .taken))
 
 returns-2 : tie.Need-returns-2
-returns-2 c = rw (ne-eqb _ 0 (c .before .if1 .left)) (c .box-bytes .ensures)
+returns-2 c = rw (ne-eqb _ 0 (c .if1 .left))
 
 pub item-bytes-spec : {M : Type 1} → statement M
-item-bytes-spec = tie.close (tie.spec returns (λ c κs. search needs) returns-2)
+item-bytes-spec = tie.close (tie.spec returns returns-2)

@@ -1,48 +1,76 @@
 -- `parts::take_count` meets its contract: a wrong count is refused for good, and a right one is passed by.
 -- Assumes nothing.
-use mathlib.Core.Path.{_≡_, sym, _∙_}
-use Prim.Native.Nat.{_+_, _≤_}
+use mathlib.Core.Path.{_≡_, sym, ap, _∙_}
+use mathlib.Core.List.{List}
+use Prim.Native.Nat.{ℕ, _+_, _*_, _≤_}
 use native.Mathlib.Omega.{arith}
+use lib.ListN.{length, getD}
 use borrow.Author.Needs.{needs}
-use Rattle.parts.proofs.Front.{count-refused, count-passed}
+use Rattle.description.specs.declared.Description.{Description}
+use Rattle.tree.specs.declared.Shape.{Shape}
+use Rattle.tree.specs.Shape.{boxes}
+use Rattle.footer.specs.Fields.{tilesOf}
+use Rattle.rtree.specs.Body.{fanoutOf}
+use Rattle.parts.specs.Code.Cursor.{withCursor}
+use Rattle.parts.specs.Code.State.{Going}
+use Rattle.parts.proofs.Front.{near-root, count-shaped, count-refused, count-passed}
 use Rattle.parts.proofs.take_count.Statement.{statement}
 use Rattle.parts.proofs.take_count.Tie as tie
 
 returns : tie.Need-returns
 returns c =
-    let u = c .before .before in
-    let k = u .before in
-    let s = k .before .before in
-    let eight = s .pre .1 .0 in
-    λ work d F footer stated body p zero g kept r fits.
-    rw (c .refuse .ensures, eight)
-    (count-refused g (s .pre .1 .1 .1) zero (s .pre .1 .1 .0) kept r eight (omega (arith, fits, eight)) (u .u64-at .ensures)
-    (λ e. c .before .if1 .taken (e ∙ sym (k .count-in .ensures))))
+    let s = c .before .before in
+    λ held work size d F footer stated body p zero g kept r fits. absurd (omega (arith, near-root g (s .pre .1 .1 .1 .1), c .if1 .taken))
 
-add-moved : tie.Need-add-moved
-add-moved c = omega (arith, c .before .before .before .before .before .before .pre .0 .room, c .before .before .before .before .before .before .pre .1 .0)
+-- the count is the level's
+count-is : (c : tie.After-u64-at) → (let s = c .before .before .before .before .before in let x = s .args in
+    (d : Description) (F : ℕ) (footer : List ℕ) (stated : ℕ) (body work held : List ℕ) (p : ℕ)
+    → Going d F footer stated body work (withCursor (x .parts) held (x .cursor)) p
+    → getD (c .before .before .shape-of .result .table) (2 * x .cursor .level + 1) 0
+    ≡ boxes (fanoutOf body) (tilesOf d footer) (x .cursor .level))
+count-is c d F footer stated body work held p g =
+    let s = c .before .before .before .before .before in
+    let e = ap (λ (q : Shape). getD (q .table) (2 * s .args .cursor .level + 1) 0) (c .before .before .shape-of .ensures) in
+    count-shaped g (s .pre .1 .1 .1 .1) _ (e ∙ rw (s .pre .0))
 
 returns-2 : tie.Need-returns-2
 returns-2 c =
-    let w = c .before .before in
-    let u = w .before .before in
-    let k = u .before in
-    let s = k .before .before in
-    let eight = s .pre .1 .0 in
-    λ work d F footer stated body p zero g kept r fits.
-    rw (c .moved .ensures, w .new .ensures, eight)
-    (count-passed g (s .pre .1 .1 .1) zero (s .pre .1 .1 .0) kept r eight (omega (arith, fits, eight)) (u .u64-at .ensures)
-    (w .before .if1 .left ∙ k .count-in .ensures))
+    let u = c .before .before in
+    let s = c .before .before .before .before .before .before .before in
+    let eight = s .pre .1 .1 .0 in
+    λ held work size d F footer stated body p zero g kept r fits.
+    rw (c .refuse .ensures, eight)
+    (count-refused g (s .pre .1 .1 .1 .1) zero (s .pre .1 .1 .1 .0) kept r eight (omega (arith, fits, eight)) (u .u64-at .ensures)
+    (λ e. c .before .if2 .taken (e ∙ sym (count-is u d F footer stated body work held p g))))
+
+add-counted : tie.Need-add-counted
+add-counted c =
+    let s = c .before .before .before .before .before .before .before in
+    omega (arith, s .pre .1 .0 .room, s .pre .1 .1 .0)
+
+returns-3 : tie.Need-returns-3
+returns-3 c =
+    let u = c .before .before .before in
+    let s = c .before .before .before .before .before .before .before .before in
+    let eight = s .pre .1 .1 .0 in
+    λ held work size d F footer stated body p zero g kept r fits.
+    rw (c .counted .ensures, count-is u d F footer stated body work held p g, eight)
+    (count-passed g (s .pre .1 .1 .1 .1) zero (s .pre .1 .1 .1 .0) kept r eight (omega (arith, fits, eight)) (u .u64-at .ensures)
+    (c .before .before .if2 .left ∙ count-is u d F footer stated body work held p g))
 
 pub take-count-spec : {M : Type 1} → statement M
 take-count-spec =
     tie.close
     (tie.spec
-    (λ c κs. search needs)
-    (λ c κs. search needs)
-    (λ c κs. search needs)
     returns
     (λ c κs. search needs)
-    add-moved
+    (λ c. search needs)
+    (λ c. search needs)
+    (λ c. search needs)
+    (λ c. search needs)
     (λ c κs. search needs)
-    returns-2)
+    (λ c κs. search needs)
+    returns-2
+    add-counted
+    (λ c κs. search needs)
+    returns-3)

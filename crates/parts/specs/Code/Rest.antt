@@ -16,6 +16,7 @@ use Rattle.boxes.specs.Code.Row.{rowRefusal}
 use Rattle.tree.specs.Shape.{boxes, height}
 use Rattle.rtree.specs.Body.{fanoutOf}
 use Rattle.rtree.specs.Opening.{rootRefusal, innerRefusal, levelRefusal}
+use Rattle.parts.specs.declared.Cursor.{Cursor}
 use Rattle.parts.specs.declared.Parts.{Parts}
 
 module _ (d : Description) (n : ℕ) (domain body : List ℕ) where
@@ -45,10 +46,10 @@ abbrev pub placed : ℕ → Refusal → Refusal
 placed start r = cond (eqb (r .number) 0) r (refusals.refusal (r .number) (start + r .place))
 
 -- so many boxes as code checks them: the root, which stands at 16, or a run of children
-abbrev pub runCheck : Parts → List ℕ → List ℕ → ℕ → Refusal
-runCheck s work bytes m =
+abbrev pub runCheck : Parts → Cursor → List ℕ → List ℕ → ℕ → Refusal
+runCheck s c work bytes m =
     let d = s .description in
-    cond (eqb (s .done) 16)
+    cond (eqb (c .done) 16)
     (placed 16
     (rowRefusal (d .kinds) (sidesOf (d .dimensions)) bytes (take (boxBytes d) (s .domain)) refusals.outsideDomain))
-    (placed (s .done) (each (childCheck d (s .fanout) (s .parents) (s .index) bytes work) 0 m))
+    (placed (c .done) (each (childCheck d (c .fanout) (c .parents) (c .index) bytes work) 0 m))

@@ -1,12 +1,12 @@
 -- What state and work buffer hold of a body, of which the first bytes have come. Nothing here is promised to a caller
 -- but that `Took`, which is made of it, goes on from call to call.
 -- Assumes nothing.
-use Prim.Native.Nat.{ℕ, suc, _+_, _-_, _*_, _≤_, _<_}
+use Prim.Native.Nat.{ℕ, suc, _+_, _-_, _*_, _≤_, _<_, min}
 use mathlib.Core.Path.{_≡_}
 use mathlib.Core.Bool.{cond}
 use mathlib.Core.List.{List}
-use lib.Dec.{eqb, ltb}
-use lib.ListN.{length, getD, take, drop, replicate}
+use lib.Dec.{eqb}
+use lib.ListN.{length, take, drop}
 use lib.Seq.{paste}
 use Rattle.answers.specs.Refusals as refusals
 use Rattle.answers.specs.Checks.{otherwise}
@@ -20,36 +20,44 @@ use Rattle.footer.specs.Checks.{footerRefusal}
 use Rattle.rtree.specs.declared.Opened.{Opened}
 use Rattle.rtree.specs.Body.{fanoutOf, levelsOf, storedCount}
 use Rattle.rtree.specs.Opening.{boxesRefusal, refusedIn}
+use Rattle.parts.specs.declared.Cursor.{Cursor}
 use Rattle.parts.specs.declared.Parts.{Parts}
 use Rattle.parts.specs.Parts.{innerBytes, partsAnswer}
+use Rattle.parts.specs.Code.Cursor.{withCursor}
 use Rattle.parts.specs.Code.Rest.{boxesFrom}
 
 -- the bytes of what comes next
-abbrev pub itemBytes : Parts → ℕ
-itemBytes s = cond (eqb (s .counted) 0) 8 (boxBytes (s .description))
-
--- the count of the level that comes next
-abbrev pub countIn : Parts → ℕ
-countIn s = getD (s .table) (2 * s .level + 1) 0
-
--- the bytes that are still to come
-abbrev pub roomLeft : Parts → ℕ
-roomLeft s = s .stated - (s .done + s .kept)
+abbrev pub itemBytes : ℕ → ℕ → ℕ
+itemBytes b counted = cond (eqb counted 0) 8 b
 
 -- more than any work buffer needs
 abbrev pub mostWork : ℕ
 mostWork = 1_099_511_627_776
 
 -- Numbers with which a step over `left` bytes is safe.
-pub record InRange (s : Parts) (left : ℕ) : Type 0 where
-  pub near : s .level ≤ 24
-  pub most : countIn s ≤ mostTiles
-  pub within : s .index ≤ countIn s
-  pub fanout : s .fanout ≤ mostFanout
-  pub own : s .own ≤ mostWork
-  pub parents : s .parents ≤ mostWork
-  pub part : s .kept < itemBytes s
-  pub room : left ≤ roomLeft s
+pub record InRange (stated b : ℕ) (c : Cursor) (left : ℕ) : Type 0 where
+  pub most : c .count ≤ mostTiles
+  pub within : c .index ≤ c .count
+  pub fanout : c .fanout ≤ mostFanout
+  pub own : c .own ≤ mostWork
+  pub parents : c .parents ≤ mostWork
+  pub part : c .kept < itemBytes b (c .counted)
+  pub room : left ≤ stated - (c .done + c .kept)
+
+-- So many boxes of a level, as they are taken: the next of it, and no more than it has left.
+pub record RunOf (s : Parts) (b : ℕ) (c : Cursor) (bytes : List ℕ) (m : ℕ) : Type 0 where
+  pub width : b ≡ boxBytes (s .description)
+  pub range : InRange (s .stated) b c (length bytes)
+  pub size : length bytes ≡ m * b
+  pub few : m ≤ c .count - c .index
+  pub counted : 0 < c .counted
+
+-- Of what comes next, of which `kept` bytes are held, so many are held then: none, where it stands whole in the block.
+pub record Gathered (held : List ℕ) (kept : ℕ) (bytes : List ℕ) (item have : ℕ) (after : List ℕ) : Type 0 where
+  pub room : length after ≡ length held
+  pub none : have ≡ 0 → (kept ≡ 0) × (item ≤ length bytes)
+  pub some : 0 < have → have ≡ kept + min (item - kept) (length bytes)
+  pub pasted : after ≡ paste held kept (take (have - kept) bytes) (length (take (have - kept) bytes))
 
 -- the bytes of the whole body, and of its inner boxes, as code works them out of the shape
 abbrev pub wholeIn : ℕ → ℕ → ℕ → ℕ
@@ -58,166 +66,15 @@ wholeIn f n b = 8 + 8 * shapeOf f n b .levels + b * shapeOf f n b .boxes
 abbrev pub innerIn : ℕ → ℕ → ℕ → ℕ
 innerIn f n b = b * (shapeOf f n b .boxes - n)
 
--- States that code makes of one another.
-abbrev pub begun : Description → ℕ → ℕ → ℕ → ℕ → List ℕ → ℕ → Parts
-begun d number place which tiles domain stated = record {
-  number = number;
-  place = place;
-  which = which;
-  description = d;
-  tiles = tiles;
-  domain = domain;
-  stated = stated;
-  fanout = 0;
-  levels = 0;
-  table = replicate 50 0;
-  level = 0;
-  counted = 0;
-  index = 0;
-  own = 0;
-  parents = 0;
-  done = 0;
-  kept = 0;
-  held = replicate 64 0;
-  «box_number» = 0;
-  «box_place» = 0;
-}
-
-abbrev pub refused : Parts → ℕ → ℕ → ℕ → Parts
-refused s which number place = record {
-  number = number;
-  place = place;
-  which = which;
-  description = s .description;
-  tiles = s .tiles;
-  domain = s .domain;
-  stated = s .stated;
-  fanout = s .fanout;
-  levels = s .levels;
-  table = s .table;
-  level = s .level;
-  counted = s .counted;
-  index = s .index;
-  own = s .own;
-  parents = s .parents;
-  done = s .done;
-  kept = s .kept;
-  held = s .held;
-  «box_number» = s .«box_number»;
-  «box_place» = s .«box_place»;
-}
-
-abbrev pub holding : Parts → List ℕ → ℕ → Parts
-holding s held kept = record {
-  number = s .number;
-  place = s .place;
-  which = s .which;
-  description = s .description;
-  tiles = s .tiles;
-  domain = s .domain;
-  stated = s .stated;
-  fanout = s .fanout;
-  levels = s .levels;
-  table = s .table;
-  level = s .level;
-  counted = s .counted;
-  index = s .index;
-  own = s .own;
-  parents = s .parents;
-  done = s .done;
-  kept = kept;
-  held = held;
-  «box_number» = s .«box_number»;
-  «box_place» = s .«box_place»;
-}
-
--- past the fanout and L, at the root's count
-abbrev pub fronted : Parts → ℕ → ℕ → List ℕ → ℕ → Parts
-fronted s fanout levels table level = record {
-  number = s .number;
-  place = s .place;
-  which = s .which;
-  description = s .description;
-  tiles = s .tiles;
-  domain = s .domain;
-  stated = s .stated;
-  fanout = fanout;
-  levels = levels;
-  table = table;
-  level = level;
-  counted = 0;
-  index = 0;
-  own = 0;
-  parents = 0;
-  done = 8;
-  kept = s .kept;
-  held = s .held;
-  «box_number» = 0;
-  «box_place» = 0;
-}
-
--- past a count or some boxes of the level
-abbrev pub moved : Parts → ℕ → ℕ → Refusal → Parts
-moved s index done fault = record {
-  number = s .number;
-  place = s .place;
-  which = s .which;
-  description = s .description;
-  tiles = s .tiles;
-  domain = s .domain;
-  stated = s .stated;
-  fanout = s .fanout;
-  levels = s .levels;
-  table = s .table;
-  level = s .level;
-  counted = 1;
-  index = index;
-  own = s .own;
-  parents = s .parents;
-  done = done;
-  kept = s .kept;
-  held = s .held;
-  «box_number» = fault .number;
-  «box_place» = fault .place;
-}
-
--- at the count of the level below, whose boxes go to a place of the work buffer
-abbrev pub lowered : Parts → ℕ → Parts
-lowered s own = record {
-  number = s .number;
-  place = s .place;
-  which = s .which;
-  description = s .description;
-  tiles = s .tiles;
-  domain = s .domain;
-  stated = s .stated;
-  fanout = s .fanout;
-  levels = s .levels;
-  table = s .table;
-  level = s .level - 1;
-  counted = 0;
-  index = 0;
-  own = own;
-  parents = s .own;
-  done = s .done;
-  kept = s .kept;
-  held = s .held;
-  «box_number» = s .«box_number»;
-  «box_place» = s .«box_place»;
-}
-
-abbrev pub passed : Parts → ℕ → ℕ → Parts
-passed s count own = cond (ltb (s .index) count) s (cond (eqb (s .level) 0) s (lowered s own))
-
 -- A start, where nothing of the body has come.
-pub record Blank (s : Parts) : Type 0 where
-  pub counted : s .counted ≡ 0
-  pub done : s .done ≡ 0
-  pub level : s .level ≡ 0
-  pub index : s .index ≡ 0
-  pub own : s .own ≡ 0
-  pub parents : s .parents ≡ 0
-  pub count : getD (s .table) 1 0 ≡ 0
+pub record Blank (c : Cursor) : Type 0 where
+  pub counted : c .counted ≡ 0
+  pub done : c .done ≡ 0
+  pub level : c .level ≡ 0
+  pub index : c .index ≡ 0
+  pub own : c .own ≡ 0
+  pub parents : c .parents ≡ 0
+  pub count : c .count ≡ 0
 
 module _ (d : Description) (F : ℕ) (footer : List ℕ) (stated : ℕ) (body work : List ℕ) (s : Parts) where
   abbrev n : ℕ
@@ -229,40 +86,44 @@ module _ (d : Description) (F : ℕ) (footer : List ℕ) (stated : ℕ) (body wo
   abbrev f : ℕ
   f = fanoutOf body
 
+  abbrev c : Cursor
+  c = s .cursor
+
   abbrev j : ℕ
-  j = s .level
+  j = c .level
 
   abbrev k : ℕ
-  k = s .index
+  k = c .index
 
   -- Past the first eight bytes: what they show is right; the counts of the levels before what comes next are right, and
   -- that of its own level if it has come; the boxes of its level that have come, and those of the level above it, stand
   -- in the work buffer; and what all boxes come to is the first fault so far, and then what is left.
   pub record InTree : Type 0 where
     pub sized : Sizes n f
-    pub fanout : s .fanout ≡ f
-    pub level-number : s .levels ≡ levelsOf body
+    pub fanout : c .fanout ≡ f
+    pub level-number : c .levels ≡ levelsOf body
     pub leveled : levelsOf body ≡ levels f n
     pub whole : stated ≡ bodyBytes f n b
     pub room : innerBytes f n b ≤ length work
-    pub table : s .table ≡ shapeOf f n b .table
     pub near : j ≤ height f n
-    pub flag : s .counted ≤ 1
-    pub fresh : s .counted ≡ 0 → k ≡ 0
-    pub place : s .done + 8 ≡ levelStart f n b j + k * b + 8 * s .counted
+    pub flag : c .counted ≤ 1
+    pub fresh : c .counted ≡ 0 → k ≡ 0
+    pub none : c .counted ≡ 0 → c .count ≡ 0
+    pub count : 0 < c .counted → c .count ≡ boxes f n j
+    pub place : c .done + 8 ≡ levelStart f n b j + k * b + 8 * c .counted
     pub index : k ≤ boxes f n j
     pub last : k ≡ boxes f n j → j ≡ 0
-    pub counts : (i : ℕ) → i ≤ height f n → j < i + s .counted → storedCount n b body i ≡ boxes f n i
-    pub own : s .own ≡ b * boxesAbove f n j
-    pub parents : j < height f n → s .parents ≡ b * boxesAbove f n (suc j)
-    pub idle : (j < height f n → ⊥) → s .parents ≡ 0
+    pub counts : (i : ℕ) → i ≤ height f n → j < i + c .counted → storedCount n b body i ≡ boxes f n i
+    pub own : c .own ≡ b * boxesAbove f n j
+    pub parents : j < height f n → c .parents ≡ b * boxesAbove f n (suc j)
+    pub idle : (j < height f n → ⊥) → c .parents ≡ 0
     pub fault : boxesRefusal d n body (domainBytes d footer)
-        ≡ otherwise (refusals.refusal (s .«box_number») (s .«box_place»))
+        ≡ otherwise (refusals.refusal (c .«box_number») (c .«box_place»))
         (boxesFrom d n (domainBytes d footer) body j k)
     pub above : j < height f n
-        → take (boxes f n (suc j) * b) (drop (s .parents) work)
+        → take (boxes f n (suc j) * b) (drop (c .parents) work)
         ≡ take (boxes f n (suc j) * b) (drop (levelStart f n b (suc j)) body)
-    pub mine : 0 < j → take (k * b) (drop (s .own) work) ≡ take (k * b) (drop (levelStart f n b j) body)
+    pub mine : 0 < j → take (k * b) (drop (c .own) work) ≡ take (k * b) (drop (levelStart f n b j) body)
 
   -- With the first p bytes of the body come, and nothing refused for good.
   pub record Going (p : ℕ) : Type 0 where
@@ -272,20 +133,20 @@ module _ (d : Description) (F : ℕ) (footer : List ℕ) (stated : ℕ) (body wo
     pub tiles : s .tiles ≡ n
     pub said : s .stated ≡ stated
     pub domain : take b (s .domain) ≡ domainBytes d footer
-    pub here : s .done + s .kept ≡ p
+    pub here : c .done + c .kept ≡ p
     pub within : p ≤ stated
     pub there : p ≤ length body
-    pub part : s .kept < itemBytes s
-    pub held : take (s .kept) (s .held) ≡ take (s .kept) (drop (s .done) body)
-    pub blank : s .fanout ≡ 0 → Blank s
-    pub tree : 0 < s .fanout → InTree
+    pub part : c .kept < itemBytes b (c .counted)
+    pub held : take (c .kept) (s .held) ≡ take (c .kept) (drop (c .done) body)
+    pub blank : c .fanout ≡ 0 → Blank c
+    pub tree : 0 < c .fanout → InTree
 
   pub record Holds (p : ℕ) : Type 0 where
     -- what is refused for good is what the body comes to
-    pub decided : (s .number ≡ 0 → ⊥)
+    pub decided : (c .number ≡ 0 → ⊥)
         → partsAnswer d F footer stated (length work) body
-        ≡ refusedIn (s .which) (refusals.refusal (s .number) (s .place))
-    pub going : s .number ≡ 0 → Going p
+        ≡ refusedIn (c .which) (refusals.refusal (c .number) (c .place))
+    pub going : c .number ≡ 0 → Going p
 
 -- bytes that stand in a body from place p on
 abbrev pub Reads : List ℕ → ℕ → List ℕ → Type 0
@@ -316,9 +177,19 @@ TakesSome s work bytes r after =
 abbrev pub TakesItem : Parts → List ℕ → List ℕ → Parts → List ℕ → Type 0
 TakesItem s work bytes r after =
     (d : Description) (F : ℕ) (footer : List ℕ) (stated : ℕ) (body : List ℕ) (p : ℕ)
-    → s .number ≡ 0 → Going d F footer stated body work s p → s .kept ≡ 0 → Reads body p bytes
+    → s .cursor .number ≡ 0 → Going d F footer stated body work s p → s .cursor .kept ≡ 0 → Reads body p bytes
     → p + length bytes ≤ stated
     → Holds d F footer stated body after r (p + length bytes)
+
+-- A number, which goes to no buffer.
+abbrev pub TakesNumber : Parts → ℕ → Cursor → List ℕ → Cursor → Type 0
+TakesNumber s room c bytes r =
+    (held work : List ℕ) → length work ≡ room → TakesItem (withCursor s held c) work bytes (withCursor s held r) work
+
+-- Held bytes and work buffer keep their lengths.
+pub record SameRoom (held work after-held after : List ℕ) : Type 0 where
+  pub to-hold : length after-held ≡ length held
+  pub to-work : length after ≡ length work
 
 -- Bytes at their place in the work buffer, unless they are of leaves, or it has no room.
 pub record Stored (work : List ℕ) (level to : ℕ) (bytes after : List ℕ) : Type 0 where
@@ -330,5 +201,5 @@ pub record Stored (work : List ℕ) (level to : ℕ) (bytes after : List ℕ) : 
 abbrev pub Ends : Parts → ℕ → Opened → Type 0
 Ends s room r =
     (d : Description) (F : ℕ) (footer : List ℕ) (stated : ℕ) (body work : List ℕ)
-    → s .fanout ≡ 0 → length work ≡ room → Going d F footer stated body work s (length body)
+    → s .cursor .fanout ≡ 0 → length work ≡ room → Going d F footer stated body work s (length body)
     → r ≡ partsAnswer d F footer stated room body
