@@ -149,7 +149,8 @@ fn read(
     domain: [Side; 4],
     tiles: usize,
 ) -> Footer
-    requires { ⌜ (checked ≡ acceptedChecked description (now bytes)) × (tiles ≡ start description (now bytes) "tiles") ⌝ }
+    requires { ⌜ (checked ≡ acceptedChecked description (now bytes))
+        × (tiles ≡ start description (now bytes) "tiles") ⌝ }
     requires { ⌜ domain ≡ boxOf (description .kinds) (sidesOf (description .dimensions)) (domainBytes description (now
         bytes)) ⌝ }
     requires { ⌜ (tiles + 50 + 88 * description .fields ≡ length (now bytes)) × (description .fields ≤ mostFields) × (2
