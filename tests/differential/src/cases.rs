@@ -170,13 +170,8 @@ fn around(boxes: &[Box_]) -> Box_ {
     (0..boxes[0].len()).map(|i| (boxes.iter().map(|b| b[i].0).min().unwrap(), boxes.iter().map(|b| b[i].1).max().unwrap())).collect()
 }
 
-struct Tree {
-    body: Vec<u8>,
-    tiles: u64,
-    root: Box_,
-}
-
-fn tree(c: &mut Chance, d: &Description) -> Tree {
+/// A fanout and a number of tiles: rows and levels that just end or just begin, and others.
+fn sizes(c: &mut Chance) -> (u64, u64) {
     let f = c.of(&[2u64, 2, 3, 4, 10, 1024]);
     let n = match c.below(12) {
         0 => 1,
@@ -184,8 +179,21 @@ fn tree(c: &mut Chance, d: &Description) -> Tree {
         2 => (f + 1).min(41),
         3 => (f * f).min(60),
         4 => (f * f + 1).min(61),
+        5 => (f * f * f).min(64),
+        6 => (f * f - 1).min(63),
         _ => 1 + c.below(24),
     };
+    (f, n)
+}
+
+struct Tree {
+    body: Vec<u8>,
+    tiles: u64,
+    root: Box_,
+}
+
+fn tree(c: &mut Chance, d: &Description) -> Tree {
+    let (f, n) = sizes(c);
     let spread = c.of(&[4u64, 20, 100]);
     let leaves: Vec<Box_> = (0..n)
         .map(|i| {
@@ -486,17 +494,7 @@ fn box_test(c: &mut Chance) -> Case {
 fn write(c: &mut Chance) -> Case {
     let d = description(c);
     let p = plain(&d);
-    let f = c.of(&[2u64, 2, 3, 4, 10, 1024]);
-    let n = match c.below(12) {
-        0 => 1,
-        1 => f.min(40),
-        2 => (f + 1).min(41),
-        3 => (f * f).min(60),
-        4 => (f * f + 1).min(61),
-        5 => (f * f * f).min(64),
-        6 => (f * f - 1).min(63),
-        _ => 1 + c.below(24),
-    };
+    let (f, n) = sizes(c);
     let (zeros, spread) = (c.one_in(3), c.of(&[2u64, 6, 100]));
     let mut leaves = vec![];
     for _ in 0..n {
