@@ -15,8 +15,8 @@ use Rattle.description.specs.declared.Dimension.{Dimension}
 use Rattle.description.specs.Description.{kindAt, sideStart}
 use Rattle.description.proofs.Tests.{both, and-assoc, and-true}
 use Rattle.ranges.specs.Ranges.{endsOf, rangeAt}
-use Rattle.ranges.proofs.Judging.{stored-finite}
 use Rattle.ranges.proofs.Comparing.{meets-around}
+use Rattle.verdicts.proofs.Judging.{stored-finite}
 use Rattle.boxes.specs.declared.Side.{Side}
 use Rattle.boxes.specs.Boxes.{rangeIn, all, sideAt, boxOf, rangesRefusal, boxFinite, boxInside, boxMeets}
 

@@ -7,7 +7,6 @@ use mathlib.Core.List.{List}
 use Prim.Native.Nat.{ℕ, _+_, _≤_, _<_}
 use native.Mathlib.Nat.{le-trans}
 use native.Mathlib.Decide.{decLt}
-use lib.Dec.{eqb}
 use lib.ListN.{length, getD, take, drop}
 use native.Mathlib.Omega.{arith}
 use borrow.Author.Tests.{not-true, eqb-true}
@@ -20,11 +19,13 @@ use Rattle.description.proofs.Tests.{both, neither, and-false}
 use Rattle.description.proofs.Patterns.{at-most-says}
 use Rattle.description.proofs.Keys.{finite-between}
 use Rattle.ranges.specs.declared.Range.{Range}
-use Rattle.ranges.specs.Ranges.{Ends, kindOf, endsAt, endsOf, rangeAt, hasNan, hasInfinity, isFinite, verdict, storedRefusal, inside}
-use Rattle.ranges.proofs.Judging.{sound, stored-clear, stored-finite}
+use Rattle.ranges.specs.Ranges.{Ends, kindOf, endsAt, endsOf, rangeAt, hasNan, inside}
 use Rattle.ranges.proofs.Comparing.{ends-kind}
 use Rattle.ranges.proofs.Containing.{inside-says}
-use Rattle.ranges.proofs.Reading.{read-verdict, read-finite, read-inside-left, read-inside-right, part-ends, known-fits}
+use Rattle.ranges.proofs.Reading.{read-inside-left, read-inside-right, part-ends, known-fits}
+use Rattle.verdicts.specs.Verdicts.{hasInfinity, isFinite, verdict}
+use Rattle.verdicts.proofs.Judging.{sound, stored-clear, stored-finite}
+use Rattle.verdicts.proofs.Reading.{read-verdict, read-finite}
 use Rattle.boxes.specs.Boxes.{sideAt}
 use Rattle.boxes.specs.Code.Row.{isSound, soundWithin, SoundBox}
 

@@ -15,7 +15,8 @@ use Rattle.boxes.specs.Boxes.{sideAt, rangesRefusal, boxInside, boxMeets
 use Rattle.boxes.proofs.Boxes.{all-says, all-when, box-meets-around}
 use Rattle.boxes.proofs.Walking.{toldAt}
 use Rattle.ranges.proofs.Comparing.{inside-refl, inside-trans}
-use Rattle.ranges.proofs.Containing.{inside-numbers, stored-numbers, stored-same}
+use Rattle.ranges.proofs.Containing.{inside-numbers}
+use Rattle.verdicts.proofs.Stored.{stored-numbers, stored-same}
 
 module _ (kinds : List Dimension) (m : ℕ) where
   -- no range of m dimensions has a NaN

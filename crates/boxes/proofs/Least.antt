@@ -32,7 +32,8 @@ use Rattle.boxes.specs.Least.{firstBest, lowestAt, highestAt, leastSide,
 use Rattle.order.proofs.Bytes.{little-same}
 use Rattle.answers.proofs.Joined.{join-length, join-part, part-in}
 use Rattle.boxes.proofs.Holding.{Numbers}
-use Rattle.ranges.proofs.Containing.{inside-says, inside-when, numbers, stored-order, stored-mixed}
+use Rattle.ranges.proofs.Containing.{inside-says, inside-when, numbers}
+use Rattle.verdicts.proofs.Stored.{stored-order, stored-mixed}
 
 -- ---- the first best of a row
 module _ (asGood : ℕ → ℕ → Bool) where

@@ -15,10 +15,10 @@ use Rattle.answers.specs.declared.Refusal.{Refusal}
 use Rattle.answers.proofs.Runs.{over-map, over-ext}
 use Rattle.answers.proofs.Checks.{each-clear, all-clear, each-has}
 use Rattle.description.specs.declared.Dimension.{Dimension}
-use Rattle.ranges.specs.declared.Verdict.{Verdict}
-use Rattle.ranges.specs.declared.Verdict.the-variants.{Sound, Infinite, InfiniteReversed, NotANumber, Reversed}
 use Rattle.description.specs.Description.{kindAt, sideStart}
-use Rattle.ranges.specs.Ranges.{verdictAt, storedRefusal}
+use Rattle.verdicts.specs.declared.Verdict.{Verdict}
+use Rattle.verdicts.specs.declared.Verdict.the-variants.{Sound, Infinite, InfiniteReversed, NotANumber, Reversed}
+use Rattle.verdicts.specs.Verdicts.{verdictAt, storedRefusal}
 use Rattle.boxes.specs.Boxes.{rangesRefusal}
 use Rattle.description.proofs.Sides.{start-up}
 use Rattle.boxes.proofs.Walking.{toldAt}

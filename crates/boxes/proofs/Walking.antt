@@ -12,14 +12,15 @@ use mir.Val.{Fits}
 use Rattle.answers.specs.Runs.{over}
 use Rattle.answers.specs.declared.Refusal.{Refusal}
 use Rattle.ranges.specs.declared.Range.{Range}
-use Rattle.ranges.specs.declared.Verdict.{Verdict}
 use Rattle.description.specs.declared.Dimension.{Dimension}
 use Rattle.description.specs.Kinds.{rangeBytes}
 use Rattle.description.specs.Description.{kindAt, sideStart}
-use Rattle.ranges.specs.Ranges.{endsOf, rangeAt, verdict, verdictAt, storedRefusal}
+use Rattle.ranges.specs.Ranges.{endsOf, rangeAt}
+use Rattle.verdicts.specs.declared.Verdict.{Verdict}
+use Rattle.verdicts.specs.Verdicts.{verdict, verdictAt, storedRefusal}
+use Rattle.verdicts.proofs.Reading.{read-verdict}
 use Rattle.boxes.specs.Boxes.{noBox, boxOf}
 use Rattle.description.proofs.Sides.{start-next, start-most}
-use Rattle.ranges.proofs.Reading.{read-verdict}
 
 -- what is told of dimension i, in a box that starts at `start`
 abbrev pub toldAt : List Dimension → List ℕ → ℕ → ℕ → Refusal

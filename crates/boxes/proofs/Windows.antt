@@ -13,7 +13,8 @@ use Rattle.description.specs.declared.Description.{Description}
 use Rattle.description.specs.Description.{kindAt, sidesOf}
 use Rattle.description.proofs.Datatypes.{one-kind}
 use Rattle.ranges.specs.declared.Range.{Range}
-use Rattle.ranges.specs.Ranges.{kindOf, endsOf, hasNan, verdict, askedRefusal}
+use Rattle.ranges.specs.Ranges.{kindOf, endsOf, hasNan}
+use Rattle.verdicts.specs.Verdicts.{verdict, askedRefusal}
 use Rattle.boxes.specs.declared.Side.{Side}
 use Rattle.boxes.specs.declared.Window.{Window}
 use Rattle.boxes.specs.Boxes.{rangeIn}

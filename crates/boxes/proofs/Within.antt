@@ -19,9 +19,10 @@ use Rattle.answers.proofs.Checks.{go-on, halt, each-clear, all-clear, none-left
 use Rattle.description.specs.declared.Dimension.{Dimension}
 use Rattle.description.specs.Description.{kindAt, sideStart}
 use Rattle.description.proofs.Tests.{both}
-use Rattle.ranges.specs.declared.Verdict.{Verdict}
-use Rattle.ranges.specs.declared.Verdict.the-variants.{Sound, Infinite, InfiniteReversed, NotANumber, Reversed}
-use Rattle.ranges.specs.Ranges.{verdictAt, storedRefusal, inside}
+use Rattle.ranges.specs.Ranges.{inside}
+use Rattle.verdicts.specs.declared.Verdict.{Verdict}
+use Rattle.verdicts.specs.declared.Verdict.the-variants.{Sound, Infinite, InfiniteReversed, NotANumber, Reversed}
+use Rattle.verdicts.specs.Verdicts.{verdictAt, storedRefusal}
 use Rattle.boxes.specs.Boxes.{all, sideAt, rangesRefusal, boxInside, boxRefusal}
 use Rattle.boxes.specs.Code.Row.{isSound, soundInside, rowBox, rowRefusal}
 use Rattle.boxes.proofs.Walking.{toldAt}

@@ -13,7 +13,8 @@ use Rattle.description.specs.declared.Dimension.{Dimension}
 use Rattle.description.specs.Description.{kindAt, sideStart}
 use Rattle.ranges.specs.declared.Range.{Range}
 use Rattle.ranges.specs.declared.Range.the-variants.{I32, I64}
-use Rattle.ranges.specs.Ranges.{Ends, endsAt, endsOf, rangeAt, isFinite, storedRefusal, verdictAt, inside, meets}
+use Rattle.ranges.specs.Ranges.{Ends, endsAt, endsOf, rangeAt, inside, meets}
+use Rattle.verdicts.specs.Verdicts.{isFinite, storedRefusal, verdictAt}
 use Rattle.boxes.specs.declared.Side.{Side}
 
 -- an int64 range 0 to 0, which box places past D hold

@@ -13,7 +13,8 @@ use Rattle.description.specs.declared.Kind.{Kind}
 use Rattle.ranges.specs.declared.Range.{Range}
 use Rattle.description.specs.Kinds.{sameKind}
 use Rattle.description.specs.Description.{kindAt, sidesOf}
-use Rattle.ranges.specs.Ranges.{endsOf, kindOf, verdict, askedRefusal}
+use Rattle.ranges.specs.Ranges.{endsOf, kindOf}
+use Rattle.verdicts.specs.Verdicts.{verdict, askedRefusal}
 use Rattle.boxes.specs.Boxes.{rangeIn}
 
 -- of one dimension: 19 where the kind differs, then 8, 9

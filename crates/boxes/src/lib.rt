@@ -4,6 +4,7 @@ use description::Description;
 use description::Dimension;
 use description::Kind;
 use ranges::Range;
+use verdicts::Verdict;
 ghost use mathlib.Core.Path.{_≡_};
 ghost use mathlib.Core.Bool.{true, false, _&&_};
 ghost use Prim.Native.Nat.{_+_, _^_, _≤_, _<_};
@@ -12,7 +13,8 @@ ghost use Rattle.answers.specs.Refusals.{refusal};
 ghost use Rattle.answers.specs.Checks.{otherwise};
 ghost use Rattle.description.specs.Description.{sidesOf, sideStart};
 ghost use Rattle.description.specs.Kinds.{rangeBytes};
-ghost use Rattle.ranges.specs.Ranges.{kindOf, endsAt, endsOf, rangeAt, hasNan, isFinite, verdict, inside};
+ghost use Rattle.ranges.specs.Ranges.{kindOf, endsAt, endsOf, rangeAt, hasNan, inside};
+ghost use Rattle.verdicts.specs.Verdicts.{isFinite, verdict};
 ghost use Rattle.boxes.specs.Boxes.{noBox, rangeIn, all, boxOf, rangesRefusal};
 ghost use Rattle.boxes.specs.Windows.{sideRefusal, windowRefusal};
 ghost use Rattle.boxes.specs.Code.Carried.{windowEnds, Fitting};
@@ -68,7 +70,7 @@ pub fn check_ranges(bytes: &[u8], kinds: [Dimension; 4], dimensions: u64) -> Ref
         let d = kinds[i];
         let kind = d.kind;
         let range = Range::read(bytes, at, kind);
-        let told = range.verdict().stored(at as u64);
+        let told = Verdict::of(range).stored(at as u64);
         if told.number != 0 {
             return told;
         }
@@ -234,7 +236,7 @@ fn float64_in(part: &[u8]) -> Range
 fn is_sound(range: Range) -> bool
     ensures { λ r. ⌜ r ≡ isSound (verdict (endsOf range) range) ⌝ }
 {
-    let told = range.verdict().stored(0);
+    let told = Verdict::of(range).stored(0);
     told.number == 0
 }
 
@@ -308,5 +310,5 @@ fn check_side(range: Range, kind: Kind, place: u64) -> Refusal
     if range.kind().datatype() != kind.datatype() {
         return Refusal::new(Refusal::WINDOW, place);
     }
-    range.verdict().asked(place)
+    Verdict::of(range).asked(place)
 }

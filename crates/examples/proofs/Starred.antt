@@ -16,7 +16,8 @@ use Rattle.answers.specs.Runs.{over}
 use Rattle.boxes.specs.Boxes.{boxOf, rangesRefusal, boxInside, boxRefusal, boxMeets}
 use Rattle.description.specs.Description.{descriptionRefusal, sideStart, boxBytes}
 use Rattle.description.specs.Kinds.{key, isNan, isInfinite, atMost}
-use Rattle.ranges.specs.Ranges.{endsAt, endsOf, hasNan, hasInfinity, isReversed, verdict, inside, meets}
+use Rattle.ranges.specs.Ranges.{endsAt, endsOf, hasNan, inside, meets}
+use Rattle.verdicts.specs.Verdicts.{hasInfinity, isReversed, verdict}
 use Rattle.boxes.specs.Windows.{sideRefusal, windowRefusal}
 use Rattle.footer.specs.Answer.{totalCells, entries, refusedFooter, acceptedFooter, footerAnswer, footerAnswerBy}
 use Rattle.footer.specs.Checks.{noFlag, flagSet, numberOutside, fileOffsetsRefusal, footerRefusalBy}

@@ -21,9 +21,9 @@ use Rattle.description.specs.declared.Dimension.{Dimension}
 use Rattle.description.specs.Description.{boxBytes, descriptionRefusal}
 use Rattle.description.specs.Limits.{leastFanout, mostFanout, outside}
 use Rattle.description.proofs.Limits.{within, not-outside}
-use Rattle.ranges.specs.declared.Verdict.{Verdict}
-use Rattle.ranges.specs.declared.Verdict.the-variants.{Sound, Infinite, InfiniteReversed, NotANumber, Reversed}
-use Rattle.ranges.specs.Ranges.{storedRefusal}
+use Rattle.verdicts.specs.declared.Verdict.{Verdict}
+use Rattle.verdicts.specs.declared.Verdict.the-variants.{Sound, Infinite, InfiniteReversed, NotANumber, Reversed}
+use Rattle.verdicts.specs.Verdicts.{storedRefusal}
 use Rattle.boxes.specs.Boxes.{rangesRefusal}
 use Rattle.tree.specs.Shape.{boxes, height, levels, levelStart, bodyBytes}
 use Rattle.footer.specs.Fields.{tilesOf, domainBytes}

@@ -13,7 +13,8 @@ use Rattle.description.specs.declared.Description.{Description}
 use Rattle.description.specs.declared.Kind.the-variants.{Int32}
 use Rattle.description.specs.Description.{descriptionRefusal, sideStart, boxBytes}
 use Rattle.description.specs.Kinds.{key, isNan, isInfinite, atMost}
-use Rattle.ranges.specs.Ranges.{endsAt, endsOf, hasNan, hasInfinity, isReversed, verdict, inside}
+use Rattle.ranges.specs.Ranges.{endsAt, endsOf, hasNan, inside}
+use Rattle.verdicts.specs.Verdicts.{hasInfinity, isReversed, verdict}
 use Rattle.boxes.specs.Boxes.{rangesRefusal, boxInside, boxRefusal}
 use Rattle.footer.specs.Checks.{noFlag, flagSet, numberOutside, fileOffsetsRefusal, footerRefusalBy}
 use Rattle.footer.specs.Fields.{start, footerBytes}

@@ -20,9 +20,10 @@ use Rattle.description.specs.Limits.{leastDimensions, mostDimensions, leastFiel
 use Rattle.description.specs.Limits.{leastTiles, mostTiles, leastFanout, mostFanout, outside}
 use Rattle.description.specs.Description.{kindAt, sidesOf, boxBytes, descriptionRefusal}
 use Rattle.ranges.specs.declared.Range.{Range}
-use Rattle.ranges.specs.declared.Verdict.{Verdict}
-use Rattle.ranges.specs.declared.Verdict.the-variants.{Sound, Infinite, InfiniteReversed, NotANumber, Reversed}
 use Rattle.ranges.specs.Ranges as ranges
+use Rattle.verdicts.specs.declared.Verdict.{Verdict}
+use Rattle.verdicts.specs.declared.Verdict.the-variants.{Sound, Infinite, InfiniteReversed, NotANumber, Reversed}
+use Rattle.verdicts.specs.Verdicts as verdicts
 use Rattle.boxes.specs.declared.Window.{Window}
 use Rattle.boxes.specs.Boxes.{rangeIn}
 use Rattle.boxes.specs.Windows.{sideRefusal, windowRefusal}
@@ -52,7 +53,7 @@ unfolding first
 in-turn [] p = nothing
 in-turn (r ∷ rs) p = either Other r (first rs) (p .0) (in-turn rs (p .1))
 
-of-range : (v : Verdict) (place : ℕ) → Other (ranges.askedRefusal v place)
+of-range : (v : Verdict) (place : ℕ) → Other (verdicts.askedRefusal v place)
 of-range (Sound r) place = nothing
 of-range (Infinite r) place = nothing
 of-range InfiniteReversed place = record { apart = λ e. omega arith }
@@ -64,7 +65,7 @@ unfolding sideRefusal
 of-side r k place =
     in-turn _ (
       said (not (sameKind (ranges.kindOf r) k)) refusals.window place (λ e. omega arith),
-      (of-range (ranges.verdict (ranges.endsOf r) r) place, tt),
+      (of-range (verdicts.verdict (ranges.endsOf r) r) place, tt),
     )
 
 of-description : (d : Description) → Other (descriptionRefusal d)

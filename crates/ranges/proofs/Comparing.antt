@@ -26,6 +26,10 @@ use Rattle.ranges.specs.declared.Range.the-variants.{I32, I64, F32, F64,
 use Rattle.ranges.specs.Ranges.{Ends, ends, kindOf, endsOf, hasNan, inside, meets}
 use Rattle.ranges.proofs.Range.{the-type}
 
+-- an answer about x, where x is known to be y
+pub when-known : {A B : Type 0} (f : A → B) {x y : A} {v : B} → x ≡ y → v ≡ f y → v ≡ f x
+when-known f e h = h ∙ ap f (sym e)
+
 -- a comparison of the ends of two ranges, in an ordered kind
 abbrev pub within : Ordered → ℕ → ℕ → ℕ → ℕ → Bool
 within o a b c d = atMost o c a && atMost o b d

@@ -1,5 +1,4 @@
 -- The laws that belong to no one function.
-pub mod Judging
 pub mod Comparing
 pub mod Containing
 pub mod Reading

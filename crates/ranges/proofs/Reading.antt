@@ -26,11 +26,10 @@ use Rattle.description.specs.declared.Kind.{Kind}
 use Rattle.description.specs.declared.Kind.the-variants.{Int32, Int64, Float32, Float64, Uint64}
 use Rattle.description.specs.Kinds.{rangeBytes, endBytes, isNan, ordered}
 use Rattle.description.proofs.Datatypes.{when-same}
-use Rattle.description.proofs.Patterns.{Alike, alike-nan, alike-infinite, alike-left, alike-right}
+use Rattle.description.proofs.Patterns.{Alike, alike-left, alike-right}
 use Rattle.ranges.specs.declared.Range.{Range}
-use Rattle.ranges.specs.Ranges.{Ends, ends, kindOf, endsAt, endsOf, fitted, rangeOf, rangeAt, hasNan, hasInfinity, isFinite, verdict, inside, meets}
-use Rattle.ranges.proofs.Judging.{when-known, verdict-on-is}
-use Rattle.ranges.proofs.Comparing.{within, touching, ends-kind}
+use Rattle.ranges.specs.Ranges.{Ends, ends, kindOf, endsAt, endsOf, fitted, rangeOf, rangeAt, inside, meets}
+use Rattle.ranges.proofs.Comparing.{when-known, within, touching, ends-kind}
 
 -- ---- as the code makes a range: of signed values that were passed on
 pub int-held : (w : Width) (x : ℤ) {p q : ℕ} → mag x < 2 ^ hbits w → x ≡ toZ w p → p ≡ q → toZ w (ofZ w x) ≡ toZ w q
@@ -61,7 +60,7 @@ eight-bytes Uint64 h = refl
 pub fitted-same : (k : Kind) (p : ℕ) → p < 256 ^ endBytes k → fitted k p ≡ p
 fitted-same k p h = mod-eq-of-lt h
 
-abbrev again : Kind → ℕ → ℕ
+abbrev pub again : Kind → ℕ → ℕ
 again Int32 p = ofZ w32 (toZ w32 p)
 again Int64 p = ofZ w64 (toZ w64 p)
 again Float32 p = toBits binary32 (ofBits binary32 p)
@@ -76,6 +75,11 @@ ends-again Float32 a b = refl
 ends-again Float64 a b = refl
 ends-again Uint64 a b = refl
 
+-- so where the same is said of the ends that come back and of the patterns, it is said of the range
+pub as-made : (k : Kind) (a b : ℕ) {A : Type 0} (f : Ends → A) → f (ends k (again k a) (again k b)) ≡ f (ends k a b)
+    → f (endsOf (rangeOf k a b)) ≡ f (ends k a b)
+as-made k a b f e = ap f (ends-again k a b) ∙ e
+
 float-again : (f : Format) (p : ℕ) → Fits (widthOf f) p
     → (toBits f (ofBits f p) ≡ p) ⊎ ((nanBits f (toBits f (ofBits f p)) ≡ true) × (nanBits f p ≡ true))
 float-again f p h = go (nanBits f p) refl
@@ -84,7 +88,7 @@ float-again f p h = go (nanBits f p) refl
     go true e = inr (nan-read f p ∙ e, e)
     go false e = inl (bits-read f p h e)
 
-alike-again : (k : Kind) (p : ℕ) → p < 256 ^ endBytes k → Alike (ordered k) (again k p) p
+pub alike-again : (k : Kind) (p : ℕ) → p < 256 ^ endBytes k → Alike (ordered k) (again k p) p
 unfolding isNan
 alike-again Int32 p h = inl (ofZ-toZ w32 p (record { fits = h }))
 alike-again Int64 p h = inl (ofZ-toZ w64 p (record { fits = h }))
@@ -100,41 +104,27 @@ module _ (k : Kind) (a b : ℕ) (a-fits : a < 256 ^ endBytes k) (b-fits : b < 25
   high : Alike (ordered k) (again k b) b
   high = alike-again k b b-fits
 
-  as-made : {A : Type 0} (f : Ends → A) → f (ends k (again k a) (again k b)) ≡ f (ends k a b) → f (endsOf (rangeOf k a b)) ≡ f (ends k a b)
-  as-made f e = ap f (ends-again k a b) ∙ e
-
-  pub of-verdict : (r : Range) → verdict (endsOf (rangeOf k a b)) r ≡ verdict (ends k a b) r
-  of-verdict r =
-      as-made (λ e. verdict e r)
-      (rw (verdict-on-is k (again k a) (again k b) r, verdict-on-is k a b r, alike-left (ordered k) (again k a) a (again k b) low, alike-right (ordered k) (again k b) b a high, alike-nan (ordered k) (again k a) a low, alike-nan (ordered k) (again k b) b high, alike-infinite k (again k a) a low, alike-infinite k (again k b) b high))
-
-  pub of-finite : isFinite (endsOf (rangeOf k a b)) ≡ isFinite (ends k a b)
-  unfolding hasNan hasInfinity
-  of-finite =
-      as-made isFinite
-      (rw (alike-nan (ordered k) (again k a) a low, alike-nan (ordered k) (again k b) b high, alike-infinite k (again k a) a low, alike-infinite k (again k b) b high))
-
   pub of-inside-left : (o : Ends) → inside (endsOf (rangeOf k a b)) o ≡ inside (ends k a b) o
   unfolding inside
   of-inside-left o =
-      as-made (λ e. inside e o) (rw (alike-right (ordered k) (again k a) a (o .low) low, alike-left (ordered k) (again k b) b (o .high) high))
+      as-made k a b (λ e. inside e o) (rw (alike-right (ordered k) (again k a) a (o .low) low, alike-left (ordered k) (again k b) b (o .high) high))
 
   pub of-meets-left : (o : Ends) → meets (endsOf (rangeOf k a b)) o ≡ meets (ends k a b) o
   unfolding meets
   of-meets-left o =
-      as-made (λ e. meets e o) (rw (alike-left (ordered k) (again k a) a (o .high) low, alike-right (ordered k) (again k b) b (o .low) high))
+      as-made k a b (λ e. meets e o) (rw (alike-left (ordered k) (again k a) a (o .high) low, alike-right (ordered k) (again k b) b (o .low) high))
 
   pub of-inside-right : (e : Ends) → inside e (endsOf (rangeOf k a b)) ≡ inside e (ends k a b)
   unfolding inside
   of-inside-right e =
-      as-made (inside e)
+      as-made k a b (inside e)
       (when-same (e .kind) k (λ x. within (ordered x) (e .low) (e .high) (again k a) (again k b)) (λ x. within (ordered x) (e .low) (e .high) a b)
       (rw (alike-left (ordered k) (again k a) a (e .low) low, alike-right (ordered k) (again k b) b (e .high) high)))
 
   pub of-meets-right : (e : Ends) → meets e (endsOf (rangeOf k a b)) ≡ meets e (ends k a b)
   unfolding meets
   of-meets-right e =
-      as-made (meets e)
+      as-made k a b (meets e)
       (when-same (e .kind) k (λ x. touching (ordered x) (e .low) (e .high) (again k a) (again k b)) (λ x. touching (ordered x) (e .low) (e .high) a b)
       (rw (alike-right (ordered k) (again k b) b (e .low) high, alike-left (ordered k) (again k a) a (e .high) low)))
 
@@ -144,14 +134,6 @@ module _ (s : List ℕ) (byte : (i : ℕ) → getD s i 0 < 256) (k : Kind) (at :
   unfolding endsAt
   ends-at-fit =
       (first-lt s (λ i. record { fits = byte i }) at (endBytes k), second-lt s (λ i. record { fits = byte i }) at (endBytes k))
-
-  pub read-verdict : (r : Range) → verdict (endsOf (rangeAt k s at)) r ≡ verdict (endsAt k s at) r
-  unfolding endsAt
-  read-verdict = of-verdict k (endsAt k s at .low) (endsAt k s at .high) (ends-at-fit .0) (ends-at-fit .1)
-
-  pub read-finite : isFinite (endsOf (rangeAt k s at)) ≡ isFinite (endsAt k s at)
-  unfolding endsAt
-  read-finite = of-finite k (endsAt k s at .low) (endsAt k s at .high) (ends-at-fit .0) (ends-at-fit .1)
 
   pub read-inside-left : (o : Ends) → inside (endsOf (rangeAt k s at)) o ≡ inside (endsAt k s at) o
   unfolding endsAt

@@ -1,22 +1,17 @@
 -- A range is its minimum and then its maximum, of its dimension's own kind.
 -- Assumes nothing.
 use Prim.Native.Nat.{ℕ, _%_, _^_}
-use mathlib.Core.Bool.{Bool, not, _&&_, _||_, cond}
+use mathlib.Core.Bool.{Bool, _&&_, _||_}
 use mathlib.Core.List.{List}
-use lib.Dec.{ltb}
 use lib.Ieee.{binary32, binary64, toBits, ofBits}
 use mir.Syntax.{w32, w64}
 use mir.Val.{toZ, ofZ}
-use Rattle.answers.specs.Refusals.{refusal, none, notANumber, reversed, infinite}
-use Rattle.answers.specs.declared.Refusal.{Refusal}
 use Rattle.order.specs.Little.{firstOfTwo, secondOfTwo}
 use Rattle.description.specs.declared.Kind.{Kind}
 use Rattle.description.specs.declared.Kind.the-variants.{Int32, Int64, Float32, Float64, Uint64}
 use Rattle.ranges.specs.declared.Range.{Range}
 use Rattle.ranges.specs.declared.Range.the-variants.{I32, I64, F32, F64, U64}
-use Rattle.ranges.specs.declared.Verdict.{Verdict}
-use Rattle.ranges.specs.declared.Verdict.the-variants.{Sound, Infinite, InfiniteReversed, NotANumber, Reversed}
-use Rattle.description.specs.Kinds.{endBytes, sameKind, key, isNan, isInfinite, ordered, atMost}
+use Rattle.description.specs.Kinds.{endBytes, sameKind, isNan, ordered, atMost}
 
 -- a range by its kind and the bit patterns of its ends
 pub record Ends : Type 0 where
@@ -65,44 +60,6 @@ rangeAt k s at = rangeOf k (endsAt k s at .low) (endsAt k s at .high)
 -- a range end is NaN
 unfoldable pub hasNan : Ends → Bool
 hasNan e = isNan (e .kind) (e .low) || isNan (e .kind) (e .high)
-
--- a range end is infinite
-unfoldable pub hasInfinity : Ends → Bool
-hasInfinity e = isInfinite (e .kind) (e .low) || isInfinite (e .kind) (e .high)
-
--- both ends are finite
-abbrev pub isFinite : Ends → Bool
-isFinite e = not (hasNan e) && not (hasInfinity e)
-
--- minimum above maximum
-unfoldable pub isReversed : Ends → Bool
-isReversed e = ltb (key (e .kind) (e .high)) (key (e .kind) (e .low))
-
--- the verdict on a range: NaN before all else; then whether an end is infinite, and whether it is reversed
-unfoldable pub verdict : Ends → Range → Verdict
-verdict e r =
-    cond (hasNan e) NotANumber
-    (cond (hasInfinity e) (cond (isReversed e) InfiniteReversed (Infinite r)) (cond (isReversed e) Reversed (Sound r)))
-
--- of the range of a kind at a place of lent bytes
-abbrev pub verdictAt : Kind → List ℕ → ℕ → Verdict
-verdictAt k s at = verdict (endsAt k s at) (rangeAt k s at)
-
--- What each verdict on a stored range says at a place: 8, then 23, then 9.
-abbrev pub storedRefusal : Verdict → ℕ → Refusal
-storedRefusal (Sound r) place = none
-storedRefusal (Infinite r) place = refusal infinite place
-storedRefusal InfiniteReversed place = refusal infinite place
-storedRefusal NotANumber place = refusal notANumber place
-storedRefusal Reversed place = refusal reversed place
-
--- And on a range of a query's box, which may be open with infinities: 8, then 9.
-abbrev pub askedRefusal : Verdict → ℕ → Refusal
-askedRefusal (Sound r) place = none
-askedRefusal (Infinite r) place = none
-askedRefusal InfiniteReversed place = refusal reversed place
-askedRefusal NotANumber place = refusal notANumber place
-askedRefusal Reversed place = refusal reversed place
 
 -- Inside means inside or equal.
 unfoldable pub inside : Ends → Ends → Bool

@@ -1,15 +1,13 @@
-// A range of one dimension: read from bytes or made of patterns, judged, inside another, meeting another.
-use answers::Refusal;
+// A range of one dimension: read from bytes or made of patterns, in order, inside another, meeting another.
 use description::Kind;
 ghost use mathlib.Core.Path.{_≡_};
-ghost use mathlib.Core.Bool.{_&&_, cond};
+ghost use mathlib.Core.Bool.{_&&_};
 ghost use Prim.Native.Nat.{_%_, _^_, _<_};
 ghost use lib.Ieee.{binary32, binary64, toBits};
 ghost use mir.Syntax.{w32, w64};
 ghost use mir.Val.{ofZ};
 ghost use Rattle.description.specs.Kinds.{endBytes, key, ordered, atMost};
-ghost use Rattle.ranges.specs.Ranges.{kindOf, endsOf, endsAt, fitted, rangeOf, rangeAt};
-ghost use Rattle.ranges.specs.Ranges.{verdict, storedRefusal, askedRefusal, inside, meets};
+ghost use Rattle.ranges.specs.Ranges.{kindOf, endsOf, endsAt, fitted, rangeOf, rangeAt, inside, meets};
 
 // A minimum and a maximum, of one kind.
 pub enum Range {
@@ -18,16 +16,6 @@ pub enum Range {
     F32(f32, f32),
     F64(f64, f64),
     U64(u64, u64),
-}
-
-// The verdict on a range: what its ends are, and whether they are in order. A stored range must be sound; a window's
-// may be infinite.
-pub enum Verdict {
-    Sound(Range),
-    Infinite(Range),
-    InfiniteReversed,
-    NotANumber,
-    Reversed,
 }
 
 // The bit patterns of a range's ends.
@@ -118,39 +106,6 @@ impl Range {
         }
     }
 
-    // A sound range is told first, with an early return: opening asks this of every box, and finds hardly any other.
-    pub fn verdict(self) -> Verdict
-        ensures { λ r. ⌜ r ≡ verdict (endsOf self) self ⌝ }
-    {
-        match self {
-            Range::I32(low, high) => finite_verdict(self, order::i32_at_most(low, high)),
-            Range::I64(low, high) => finite_verdict(self, order::i64_at_most(low, high)),
-            Range::F32(low, high) => {
-                if order::f32_finite_at_most(low, high) {
-                    return Verdict::Sound(self);
-                }
-                other_verdict(
-                    self,
-                    order::f32_at_most(low, high),
-                    order::f32_is_nan(low) || order::f32_is_nan(high),
-                    order::f32_is_infinite(low) || order::f32_is_infinite(high),
-                )
-            }
-            Range::F64(low, high) => {
-                if order::f64_finite_at_most(low, high) {
-                    return Verdict::Sound(self);
-                }
-                other_verdict(
-                    self,
-                    order::f64_at_most(low, high),
-                    order::f64_is_nan(low) || order::f64_is_nan(high),
-                    order::f64_is_infinite(low) || order::f64_is_infinite(high),
-                )
-            }
-            Range::U64(low, high) => finite_verdict(self, order::u64_at_most(low, high)),
-        }
-    }
-
     // The minimum is at most the maximum, which no NaN is.
     pub fn in_order(self) -> bool
         ensures { λ r. ⌜ r ≡ atMost (ordered (kindOf self)) (endsOf self .low) (endsOf self .high) ⌝ }
@@ -221,34 +176,6 @@ impl Range {
     }
 }
 
-impl Verdict {
-    // What each verdict on a stored range says at a place.
-    pub fn stored(self, place: u64) -> Refusal
-        ensures { λ r. ⌜ r ≡ storedRefusal self place ⌝ }
-    {
-        match self {
-            Verdict::Sound(_) => Refusal::none(),
-            Verdict::Infinite(_) => Refusal::new(Refusal::INFINITE, place),
-            Verdict::InfiniteReversed => Refusal::new(Refusal::INFINITE, place),
-            Verdict::NotANumber => Refusal::new(Refusal::NOT_A_NUMBER, place),
-            Verdict::Reversed => Refusal::new(Refusal::REVERSED, place),
-        }
-    }
-
-    // And on a range of a window.
-    pub fn asked(self, place: u64) -> Refusal
-        ensures { λ r. ⌜ r ≡ askedRefusal self place ⌝ }
-    {
-        match self {
-            Verdict::Sound(_) => Refusal::none(),
-            Verdict::Infinite(_) => Refusal::none(),
-            Verdict::InfiniteReversed => Refusal::new(Refusal::REVERSED, place),
-            Verdict::NotANumber => Refusal::new(Refusal::NOT_A_NUMBER, place),
-            Verdict::Reversed => Refusal::new(Refusal::REVERSED, place),
-        }
-    }
-}
-
 // The patterns of the range of a kind at a place of lent bytes.
 pub fn patterns_at(bytes: &[u8], at: usize, kind: Kind) -> Patterns
     ensures { λ r. ⌜ r .low ≡ endsAt kind (now (bytes .entry)) at .low ⌝ }
@@ -284,34 +211,6 @@ pub fn key_of(kind: Kind, pattern: u64) -> u64
         Kind::Float64 => order::f64_key(pattern),
         Kind::Uint64 => pattern,
     }
-}
-
-// The verdict on a range of finite ends, in order or not.
-fn finite_verdict(range: Range, ordered: bool) -> Verdict
-    ensures { λ r. ⌜ r ≡ cond ordered (Verdict.Sound range) Verdict.Reversed ⌝ }
-{
-    if ordered {
-        return Verdict::Sound(range);
-    }
-    Verdict::Reversed
-}
-
-// The verdict on a range that is not sound: one end is NaN or not, the ends are in order or not, one is infinite or
-// not.
-fn other_verdict(range: Range, ordered: bool, nan: bool, infinite: bool) -> Verdict
-    ensures { λ r. ⌜ r ≡ cond nan Verdict.NotANumber
-        (cond ordered (Verdict.Infinite range) (cond infinite Verdict.InfiniteReversed Verdict.Reversed)) ⌝ }
-{
-    if nan {
-        return Verdict::NotANumber;
-    }
-    if ordered {
-        return Verdict::Infinite(range);
-    }
-    if infinite {
-        return Verdict::InfiniteReversed;
-    }
-    Verdict::Reversed
 }
 
 // The lowest four bytes of a number.

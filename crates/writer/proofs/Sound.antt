@@ -14,8 +14,9 @@ use Rattle.description.specs.declared.Kind.{Kind}
 use Rattle.description.specs.declared.Description.{Description}
 use Rattle.description.specs.Description.{kindAt, sideStart, sidesOf, boxBytes}
 use Rattle.description.proofs.Sides.{two-ends, start-up}
-use Rattle.ranges.specs.Ranges.{endsAt, verdictAt, storedRefusal}
-use Rattle.ranges.proofs.Judging.{stored-sound}
+use Rattle.ranges.specs.Ranges.{endsAt}
+use Rattle.verdicts.specs.Verdicts.{verdictAt, storedRefusal}
+use Rattle.verdicts.proofs.Judging.{stored-sound}
 use Rattle.boxes.specs.Boxes.{rangesRefusal}
 use Rattle.boxes.proofs.Moving.{moved-clear, ranges-moved, ranges-none}
 use Rattle.boxes.proofs.Walking.{toldAt}

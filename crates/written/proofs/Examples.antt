@@ -14,7 +14,8 @@ use Rattle.order.specs.Key.{signedKey, floatKey}
 use Rattle.order.specs.Little.{little, firstOfTwo, secondOfTwo, bytesOf}
 use Rattle.description.specs.Description.{descriptionRefusal, sideStart, boxBytes}
 use Rattle.description.specs.Kinds.{key, isNan, isInfinite}
-use Rattle.ranges.specs.Ranges.{endsAt, hasNan, hasInfinity, isReversed, verdict}
+use Rattle.ranges.specs.Ranges.{endsAt, hasNan}
+use Rattle.verdicts.specs.Verdicts.{hasInfinity, isReversed, verdict}
 use Rattle.boxes.specs.Boxes.{rangesRefusal}
 use Rattle.boxes.specs.Least.{firstBest, leastSide, around}
 use Rattle.tree.specs.Shape.{up, boxes, children, heightAbove, height, levels, allBoxes, bodyBytes}

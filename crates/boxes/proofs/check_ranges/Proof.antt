@@ -39,7 +39,7 @@ told c =
     let l = r .before .before .before in
     let s = l .before .before in
     told-here _ _ _ (l .loop .inv .1) (s .before .args .bytes .now) (λ j. s .shared-slice-known .given j .fits)
-    _ (r .read .ensures) _ _ (c .before .verdict .ensures) (c .stored .ensures)
+    _ (r .read .ensures) _ _ (c .before .of .ensures) (c .stored .ensures)
 
 returns : tie.Need-returns Inv-loop μ-loop
 returns c =

@@ -8,10 +8,11 @@ use borrow.Author.Needs.{needs}
 use borrow.Author.Tests.{eq-eqb, ne-eqb}
 use Rattle.answers.proofs.Checks.{past-check, stop-check}
 use Rattle.answers.specs.Checks.{first}
-use Rattle.ranges.specs.declared.Verdict.{Verdict}
-use Rattle.ranges.specs.declared.Verdict.the-variants.{Sound, Infinite, InfiniteReversed, NotANumber, Reversed}
 use Rattle.description.specs.Kinds.{datatype}
-use Rattle.ranges.specs.Ranges.{endsOf, verdict, askedRefusal}
+use Rattle.ranges.specs.Ranges.{endsOf}
+use Rattle.verdicts.specs.declared.Verdict.{Verdict}
+use Rattle.verdicts.specs.declared.Verdict.the-variants.{Sound, Infinite, InfiniteReversed, NotANumber, Reversed}
+use Rattle.verdicts.specs.Verdicts.{verdict, askedRefusal}
 use Rattle.boxes.specs.Windows.{sideRefusal}
 use Rattle.boxes.proofs.check_side.Statement.{statement}
 use Rattle.boxes.proofs.check_side.Tie as tie
@@ -42,7 +43,7 @@ returns-2 c =
     let p = a .place in
     let e = n .before .datatype .ensures ∙ ap datatype (n .before .before .kind .ensures) in
     c .asked .ensures
-    ∙ ap (λ (x : Verdict). askedRefusal x p) (j .verdict .ensures)
+    ∙ ap (λ (x : Verdict). askedRefusal x p) (j .of .ensures)
     ∙ sym (
     past-check _ _ _ _ (ap not (eq-eqb _ _ (sym e ∙ j .before .if1 .left ∙ n .datatype2 .ensures)))
     ∙ alone (verdict (endsOf (a .range)) (a .range)) p

@@ -10,7 +10,7 @@ use borrow.Author.Needs.{needs}
 use borrow.Author.Tests.{not-false}
 use Rattle.description.specs.Description.{sideStart}
 use Rattle.description.proofs.Sides.{start-first}
-use Rattle.ranges.specs.Ranges.{isFinite}
+use Rattle.verdicts.specs.Verdicts.{isFinite}
 use Rattle.boxes.specs.Boxes.{sideAt}
 use Rattle.boxes.proofs.Walking.{next-place, place-fits}
 use Rattle.boxes.proofs.Held.{finite-next, sound-box}

@@ -12,8 +12,9 @@ use Rattle.description.specs.declared.Kind.{Kind}
 use Rattle.description.specs.declared.Dimension.{Dimension}
 use Rattle.description.specs.Kinds.{rangeBytes}
 use Rattle.description.specs.Description.{kindAt, sideStart}
-use Rattle.ranges.specs.declared.Verdict.{Verdict}
-use Rattle.ranges.specs.Ranges.{endsAt, isFinite, verdictAt, storedRefusal, inside}
+use Rattle.ranges.specs.Ranges.{endsAt, inside}
+use Rattle.verdicts.specs.declared.Verdict.{Verdict}
+use Rattle.verdicts.specs.Verdicts.{isFinite, verdictAt, storedRefusal}
 use Rattle.boxes.specs.Boxes.{boxRefusal}
 
 -- a verdict that no refusal comes of

@@ -10,7 +10,7 @@ use Rattle.description.specs.declared.Kind.the-variants.{Float32, Float64}
 use Rattle.description.specs.Kinds.{isNan}
 use Rattle.ranges.specs.declared.Range.the-variants.{F32, F64}
 use Rattle.ranges.specs.Ranges.{fitted, rangeOf}
-use Rattle.ranges.proofs.Judging.{when-known}
+use Rattle.ranges.proofs.Comparing.{when-known}
 use Rattle.ranges.proofs.Reading.{fitted-same}
 use Rattle.query.proofs.window_range.Statement.{statement}
 use Rattle.query.proofs.window_range.Tie as tie

@@ -7,7 +7,7 @@ use Rattle.order.specs.Key.{signedKey, floatKey}
 use Rattle.description.specs.declared.Kind.the-variants.{Int64, Float64, Uint64}
 use Rattle.description.specs.Kinds.{key}
 use Rattle.ranges.specs.Ranges.{fitted}
-use Rattle.ranges.proofs.Judging.{when-known}
+use Rattle.ranges.proofs.Comparing.{when-known}
 use Rattle.ranges.proofs.Reading.{fitted-same}
 use Rattle.ranges.proofs.key_of.Statement.{statement}
 use Rattle.ranges.proofs.key_of.Tie as tie

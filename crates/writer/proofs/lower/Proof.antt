@@ -8,7 +8,7 @@ use lib.Dec.{ltb}
 use Rattle.description.specs.declared.Kind.{Kind}
 use Rattle.description.specs.declared.Kind.the-variants.{Int32}
 use Rattle.description.specs.Kinds.{endBytes, key}
-use Rattle.ranges.proofs.Judging.{when-known}
+use Rattle.ranges.proofs.Comparing.{when-known}
 use Rattle.ranges.proofs.Reading.{fitted-same}
 use Rattle.writer.proofs.lower.Statement.{statement}
 use Rattle.writer.proofs.lower.Tie as tie

@@ -15,7 +15,8 @@ use Rattle.description.specs.declared.Description.{Description}
 use Rattle.description.specs.Kinds.{endBytes, rangeBytes, isInfinite, ordered, atMost}
 use Rattle.description.specs.Description.{kindAt, sideStart, sidesOf, boxBytes}
 use Rattle.ranges.specs.declared.Patterns.{Patterns}
-use Rattle.ranges.specs.Ranges.{endsAt, hasNan, verdictAt, storedRefusal}
+use Rattle.ranges.specs.Ranges.{endsAt, hasNan}
+use Rattle.verdicts.specs.Verdicts.{verdictAt, storedRefusal}
 use Rattle.boxes.specs.Boxes.{rangesRefusal}
 use Rattle.boxes.specs.Least.{lowestAt, highestAt, around}
 use Rattle.description.specs.Limits.{Sizes}

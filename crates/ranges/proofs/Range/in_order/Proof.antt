@@ -7,7 +7,7 @@ use Rattle.description.specs.Kinds.{key, isNan, ordered, atMost}
 use Rattle.description.proofs.Patterns.{as-passed}
 use Rattle.ranges.specs.declared.Range.{Range}
 use Rattle.ranges.specs.Ranges.{kindOf, endsOf}
-use Rattle.ranges.proofs.Judging.{when-known}
+use Rattle.ranges.proofs.Comparing.{when-known}
 use Rattle.ranges.proofs.Range.in_order.Statement.{statement}
 use Rattle.ranges.proofs.Range.in_order.Tie as tie
 

@@ -6,7 +6,7 @@ use mir.Syntax.{w32, w64}
 use Rattle.description.specs.declared.Kind.the-variants.{Int64, Float64, Uint64}
 use Rattle.ranges.specs.declared.Range.the-variants.{I32, I64, F32, F64, U64}
 use Rattle.ranges.specs.Ranges.{fitted, rangeOf}
-use Rattle.ranges.proofs.Judging.{when-known}
+use Rattle.ranges.proofs.Comparing.{when-known}
 use Rattle.ranges.proofs.Reading.{int-held, fitted-same}
 use Rattle.ranges.proofs.Range.of.Statement.{statement}
 use Rattle.ranges.proofs.Range.of.Tie as tie

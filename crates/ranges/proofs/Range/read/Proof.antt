@@ -5,7 +5,7 @@ use lib.Ieee.{binary32, binary64, ofBits}
 use mir.Syntax.{w32, w64}
 use Rattle.ranges.specs.declared.Range.the-variants.{I32, I64, F32, F64, U64}
 use Rattle.ranges.specs.Ranges.{endsAt, rangeAt}
-use Rattle.ranges.proofs.Judging.{when-known}
+use Rattle.ranges.proofs.Comparing.{when-known}
 use Rattle.ranges.proofs.Reading.{int-held}
 use Rattle.ranges.proofs.Range.read.Statement.{statement}
 use Rattle.ranges.proofs.Range.read.Tie as tie

@@ -1,9 +1,9 @@
 -- `Verdict::asked` meets its contract: each case says what the definition says of it. Assumes nothing.
 use borrow.Author.Needs.{needs}
-use Rattle.ranges.specs.Ranges.{askedRefusal}
-use Rattle.ranges.proofs.Judging.{when-known}
-use Rattle.ranges.proofs.Verdict.asked.Statement.{statement}
-use Rattle.ranges.proofs.Verdict.asked.Tie as tie
+use Rattle.ranges.proofs.Comparing.{when-known}
+use Rattle.verdicts.specs.Verdicts.{askedRefusal}
+use Rattle.verdicts.proofs.Verdict.asked.Statement.{statement}
+use Rattle.verdicts.proofs.Verdict.asked.Tie as tie
 
 returns-3 : tie.Need-returns-3
 returns-3 c = when-known (λ v. askedRefusal v (c .before .before .before .args .place)) (c .before .enum-told3 .given .1) (c .new .ensures)

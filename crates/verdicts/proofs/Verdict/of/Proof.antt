@@ -1,4 +1,4 @@
--- `Range::verdict` meets its contract: what its tests find at each kind is what the kind's law asks. Assumes nothing.
+-- `Verdict::of` meets its contract: what its tests find at each kind is what the kind's law asks. Assumes nothing.
 use mathlib.Core.Path.{refl, sym, _∙_}
 use mathlib.Core.Logic.{⊎-elim}
 use borrow.Author.Needs.{needs}
@@ -9,16 +9,18 @@ use Rattle.order.specs.Key.{floatAtMost, signedAtMost}
 use Rattle.description.specs.declared.Kind.the-variants.{Int32, Int64, Float32, Float64, Uint64}
 use Rattle.description.specs.Kinds.{key, isNan, isInfinite, atMost}
 use Rattle.description.proofs.Patterns.{as-passed}
-use Rattle.ranges.specs.Ranges.{endsOf, verdict}
-use Rattle.ranges.proofs.Judging.{when-known, verdict-by, sound-by, other-by}
-use Rattle.ranges.proofs.Range.verdict.Statement.{statement}
-use Rattle.ranges.proofs.Range.verdict.Tie as tie
+use Rattle.ranges.specs.Ranges.{endsOf}
+use Rattle.ranges.proofs.Comparing.{when-known}
+use Rattle.verdicts.specs.Verdicts.{verdict}
+use Rattle.verdicts.proofs.Judging.{verdict-by, sound-by, other-by}
+use Rattle.verdicts.proofs.Verdict.of.Statement.{statement}
+use Rattle.verdicts.proofs.Verdict.of.Tie as tie
 
 returns : tie.Need-returns
 unfolding endsOf atMost isNan isInfinite key floatAtMost
 returns c =
     let n = c .before in
-    let s = n .before .before .self3 .given in
+    let s = n .before .before .range3 .given in
     when-known (λ x. verdict (endsOf x) x) (s .1)
     (sound-by Float32 (toBits binary32 (s .0 .0)) (toBits binary32 (s .0 .1 .0)) _ refl (n .f32-finite-at-most .ensures) (c .if1 .taken))
 
@@ -26,14 +28,14 @@ returns-2 : tie.Need-returns-2
 unfolding endsOf atMost isNan isInfinite key floatAtMost
 returns-2 c =
     let n = c .before in
-    let s = n .before .before .self4 .given in
+    let s = n .before .before .range4 .given in
     when-known (λ x. verdict (endsOf x) x) (s .1)
     (sound-by Float64 (toBits binary64 (s .0 .0)) (toBits binary64 (s .0 .1 .0)) _ refl (n .f64-finite-at-most .ensures) (c .if4 .taken))
 
 returns-3 : tie.Need-returns-3
 unfolding endsOf atMost isNan isInfinite key signedAtMost
 returns-3 c =
-    let s = c .before .before .before .self .given in
+    let s = c .before .before .before .range .given in
     let f = c .before .before .known-told .given in
     when-known (λ x. verdict (endsOf x) x) (s .1)
     (verdict-by Int32 (ofZ w32 (s .0 .0)) (ofZ w32 (s .0 .1 .0)) _ refl
@@ -45,7 +47,7 @@ returns-3 c =
 returns-4 : tie.Need-returns-4
 unfolding endsOf atMost isNan isInfinite key signedAtMost
 returns-4 c =
-    let s = c .before .before .before .self2 .given in
+    let s = c .before .before .before .range2 .given in
     let f = c .before .before .known-told2 .given in
     when-known (λ x. verdict (endsOf x) x) (s .1)
     (verdict-by Int64 (ofZ w64 (s .0 .0)) (ofZ w64 (s .0 .1 .0)) _ refl
@@ -59,7 +61,7 @@ unfolding endsOf atMost isNan isInfinite key floatAtMost
 returns-5 c =
     let i = c .before .before in
     let n = i .before .before in
-    let s = n .before .before .before .before .before .self3 .given in
+    let s = n .before .before .before .before .before .range3 .given in
     when-known (λ x. verdict (endsOf x) x) (s .1)
     (other-by Float32 (toBits binary32 (s .0 .0)) (toBits binary32 (s .0 .1 .0)) _ refl (n .before .f32-at-most .ensures)
     (⊎-elim (λ w. w .1 ∙ w .0 .taken ∙ rw (sym (n .f32-is-nan .ensures) ∙ w .0 .taken)) (λ w. w .2 ∙ w .1 .ensures ∙ rw (sym (n .f32-is-nan .ensures) ∙ w .0 .left)) (i .before .if2 .came))
@@ -73,7 +75,7 @@ unfolding endsOf atMost isNan isInfinite key floatAtMost
 returns-6 c =
     let i = c .before .before in
     let n = i .before .before in
-    let s = n .before .before .before .before .before .self4 .given in
+    let s = n .before .before .before .before .before .range4 .given in
     when-known (λ x. verdict (endsOf x) x) (s .1)
     (other-by Float64 (toBits binary64 (s .0 .0)) (toBits binary64 (s .0 .1 .0)) _ refl (n .before .f64-at-most .ensures)
     (⊎-elim (λ w. w .1 ∙ w .0 .taken ∙ rw (sym (n .f64-is-nan .ensures) ∙ w .0 .taken)) (λ w. w .2 ∙ w .1 .ensures ∙ rw (sym (n .f64-is-nan .ensures) ∙ w .0 .left)) (i .before .if5 .came))
@@ -85,12 +87,12 @@ returns-6 c =
 returns-7 : tie.Need-returns-7
 unfolding endsOf atMost isNan isInfinite key
 returns-7 c =
-    let s = c .before .before .before .self5 .given in
+    let s = c .before .before .before .range5 .given in
     when-known (λ x. verdict (endsOf x) x) (s .1)
     (verdict-by Uint64 (s .0 .0) (s .0 .1 .0) _ refl (c .before .u64-at-most .ensures) refl refl (c .finite-verdict3 .ensures))
 
-pub verdict-spec : {M : Type 1} → statement M
-verdict-spec =
+pub of-spec : {M : Type 1} → statement M
+of-spec =
     tie.close
     (tie.spec
     (λ c. search needs)

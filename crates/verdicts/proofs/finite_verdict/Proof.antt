@@ -1,7 +1,7 @@
--- `ranges::finite_verdict` meets its contract: its one test. Assumes nothing.
+-- `verdicts::finite_verdict` meets its contract: its one test. Assumes nothing.
 use borrow.Author.Needs.{needs}
-use Rattle.ranges.proofs.finite_verdict.Statement.{statement}
-use Rattle.ranges.proofs.finite_verdict.Tie as tie
+use Rattle.verdicts.proofs.finite_verdict.Statement.{statement}
+use Rattle.verdicts.proofs.finite_verdict.Tie as tie
 
 returns : tie.Need-returns
 returns c = rw (c .if1 .taken)

@@ -14,14 +14,11 @@ use Rattle.description.specs.Kinds.{key, isNan, isInfinite, ordered, atMost}
 use Rattle.description.proofs.Tests.{both}
 use Rattle.description.proofs.Patterns.{at-most-says}
 use borrow.Author.Tests.{not-true}
 use Rattle.ranges.specs.declared.Range.{Range}
-use Rattle.ranges.specs.declared.Verdict.{Verdict}
-use Rattle.ranges.specs.declared.Verdict.the-variants.{Sound, Infinite, InfiniteReversed, NotANumber, Reversed}
-use Rattle.ranges.specs.Ranges.{Ends, ends, endsOf, hasNan, hasInfinity, isFinite, isReversed, verdict, storedRefusal, askedRefusal}
-
--- an answer about x, where x is known to be y
-pub when-known : {A B : Type 0} (f : A → B) {x y : A} {v : B} → x ≡ y → v ≡ f y → v ≡ f x
-when-known f e h = h ∙ ap f (sym e)
+use Rattle.ranges.specs.Ranges.{Ends, ends, endsOf, hasNan}
+use Rattle.verdicts.specs.declared.Verdict.{Verdict}
+use Rattle.verdicts.specs.declared.Verdict.the-variants.{Sound, Infinite, InfiniteReversed, NotANumber, Reversed}
+use Rattle.verdicts.specs.Verdicts.{hasInfinity, isFinite, isReversed, verdict, storedRefusal, askedRefusal}
 
 -- by the ends' order, by a NaN and by an infinity
 abbrev pub verdictOn : Range → Bool → Bool → Bool → Verdict

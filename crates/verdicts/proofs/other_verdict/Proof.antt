@@ -1,7 +1,7 @@
--- `ranges::other_verdict` meets its contract: its tests, one after the other. Assumes nothing.
+-- `verdicts::other_verdict` meets its contract: its tests, one after the other. Assumes nothing.
 use borrow.Author.Needs.{needs}
-use Rattle.ranges.proofs.other_verdict.Statement.{statement}
-use Rattle.ranges.proofs.other_verdict.Tie as tie
+use Rattle.verdicts.proofs.other_verdict.Statement.{statement}
+use Rattle.verdicts.proofs.other_verdict.Tie as tie
 
 returns-2 : tie.Need-returns-2
 returns-2 c = rw (c .before .if1 .left, c .if2 .taken)

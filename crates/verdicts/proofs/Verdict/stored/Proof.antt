@@ -1,9 +1,9 @@
 -- `Verdict::stored` meets its contract: each case says what the definition says of it. Assumes nothing.
 use borrow.Author.Needs.{needs}
-use Rattle.ranges.specs.Ranges.{storedRefusal}
-use Rattle.ranges.proofs.Judging.{when-known}
-use Rattle.ranges.proofs.Verdict.stored.Statement.{statement}
-use Rattle.ranges.proofs.Verdict.stored.Tie as tie
+use Rattle.ranges.proofs.Comparing.{when-known}
+use Rattle.verdicts.specs.Verdicts.{storedRefusal}
+use Rattle.verdicts.proofs.Verdict.stored.Statement.{statement}
+use Rattle.verdicts.proofs.Verdict.stored.Tie as tie
 
 returns-2 : tie.Need-returns-2
 returns-2 c = when-known (λ v. storedRefusal v (c .before .before .before .args .place)) (c .before .enum-told2 .given .1) (c .new .ensures)
