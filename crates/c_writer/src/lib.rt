@@ -42,6 +42,6 @@ pub extern "C" fn tussockbell_tree_length(
         (describe (now (kinds .entry)) fields capacity) tiles fanout) ⌝ }
 {
     let d = c_arguments::describe(kinds, fields, capacity);
-    let r = writer::body_length(d, tiles, fanout);
+    let r = leaves::body_length(d, tiles, fanout);
     *answer = [r.number, r.place, r.length];
 }

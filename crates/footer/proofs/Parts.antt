@@ -1,24 +1,26 @@
 -- The order of checks in the parts that the code goes through: a list of checks in two parts says what the first part
 -- says, or else what the second does. At the places that the code works out, the checks are the definition's.
 -- Assumes nothing.
-use mathlib.Core.Path.{_≡_, refl, ap, _∙_}
+use mathlib.Core.Path.{_≡_, refl, ap, sym, _∙_}
 use mathlib.Core.Bool.{not}
 use mathlib.Core.List.{List, [], _∷_, _++_}
 use Prim.Native.Nat.{ℕ, _+_, _-_, _*_}
 use native.Mathlib.Omega.{arith}
 use lib.Dec.{ltb, eqb}
-use lib.ListN.{length, take, drop}
+use lib.ListN.{length, getD, take, drop}
 use Rattle.answers.specs.Refusals as refusals
 use Rattle.answers.specs.Checks.{otherwise, first}
 use Rattle.answers.specs.declared.Refusal.{Refusal}
-use Rattle.answers.proofs.Checks.{first-append, joined, joined-first}
+use Rattle.answers.proofs.Checks.{first-append, joined, joined-first, last}
 use Rattle.order.specs.Little.{little}
 use Rattle.description.specs.declared.Description.{Description}
 use Rattle.description.specs.Limits.{leastTiles, mostTiles}
 use Rattle.description.specs.Description.{sidesOf, boxBytes}
+use Rattle.description.specs.Rules.{current}
 use Rattle.boxes.specs.Boxes.{rangesRefusal}
+use Rattle.boxes.proofs.Moving.{ranges-none}
 use Rattle.footer.specs.Fields.{start, footerBytes}
-use Rattle.footer.specs.Checks.{noFlag, flagSet, numberOutside, fileOffsetsRefusal, wrongBytes, headChecks, sizeChecks, fieldChecks, footerRefusal, footerRefusalBy}
+use Rattle.footer.specs.Checks.{noFlag, flagSet, numberOutside, fileOffsetsRefusal, wrongBytes, headChecks, sizeChecks, checksBeforeTiles, checksFromTilesBy, fieldChecks, footerRefusal, footerRefusalBy}
 use Rattle.footer.proofs.Fields.{null-domain-next, domain-next, length-last, after}
 
 module _ (d : Description) (F : ℕ) (footer : List ℕ) where
@@ -37,39 +39,50 @@ module _ (d : Description) (F : ℕ) (footer : List ℕ) where
       rw e (joined-first (wrongBytes footer (not (eqb (length footer) (footerBytes d footer)))) []
       (ltb F (footerBytes d footer)) refusals.bytes (length footer) (omega arith))
 
-  -- the checks after the dense flag's 5, by the starts of that flag and of the tile number
-  abbrev pub others : ℕ → ℕ → List Refusal
-  others dense tiles =
-      flagSet footer refusals.dense dense
+-- the checks before the tile number, by the start of the dense flag
+module _ (d : Description) (footer : List ℕ) (dense : ℕ) where
+  abbrev ranges : Refusal
+  ranges = rangesRefusal (d .kinds) (sidesOf (d .dimensions)) (take (boxBytes d) (drop (dense + 2) footer)) (dense + 2)
+
+  abbrev flags : List Refusal
+  flags =
+      noFlag footer dense
+      ∷ flagSet footer refusals.dense dense
       ∷ noFlag footer (dense + 1)
       ∷ flagSet footer refusals.nullDomain (dense + 1)
-      ∷ rangesRefusal (d .kinds) (sidesOf (d .dimensions)) (take (boxBytes d) (drop (dense + 2) footer)) (dense + 2)
-      ∷ numberOutside footer 8 leastTiles mostTiles refusals.tiles tiles
-      ∷ numberOutside footer 8 1 (d .capacity) refusals.lastCells (tiles + 8)
+      ∷ []
+
+  pub before-joined : dense ≡ start d footer "dense"
+      → otherwise (otherwise (otherwise (otherwise (noFlag footer dense) (flagSet footer refusals.dense dense))
+      (noFlag footer (dense + 1))) (flagSet footer refusals.nullDomain (dense + 1))) ranges
+      ≡ first (checksBeforeTiles d footer)
+  unfolding flagSet
+  before-joined p =
+      ap (λ r. otherwise r ranges)
+      (joined-first (noFlag footer dense) (flagSet footer refusals.dense dense ∷ noFlag footer (dense + 1) ∷ [])
+      (eqb (getD footer (dense + 1) 0) 1) refusals.nullDomain (dense + 1) (omega arith))
+      ∙ ap (otherwise (first flags)) (sym (last ranges (ranges-none (d .kinds) (sidesOf (d .dimensions)) _ (dense + 2))))
+      ∙ sym (first-append flags (ranges ∷ []))
+      ∙ ap first (rw (p, null-domain-next d footer, domain-next d footer))
+
+module _ (d : Description) (F : ℕ) (footer : List ℕ) where
+  -- the checks after the tile number's, by its start: the last of them, and those before it
+  abbrev pub lengthCheck : Refusal
+  lengthCheck = wrongBytes footer (not (eqb (little footer (length footer - 8) 8) (length footer - 8)))
+
+  abbrev pub others : ℕ → List Refusal
+  others tiles =
+      numberOutside footer 8 1 (d .capacity) refusals.lastCells (tiles + 8)
       ∷ noFlag footer (tiles + 16)
       ∷ noFlag footer (tiles + 17)
       ∷ fileOffsetsRefusal footer (F - length footer) (8 * d .fields + 3) (tiles + 18 + 24 * d .fields)
       ∷ []
 
-  abbrev pub last : Refusal
-  last = wrongBytes footer (not (eqb (little footer (length footer - 8) 8) (length footer - 8)))
-
-  pub fields-joined : (dense tiles : ℕ)
-      → length footer ≡ footerBytes d footer → dense ≡ start d footer "dense" → tiles ≡ start d footer "tiles"
-      → joined (noFlag footer dense) (others dense tiles ++ (last ∷ [])) ≡ first (fieldChecks d footer F)
-  fields-joined dense tiles h p q =
+  pub from-joined : (tiles : ℕ) → length footer ≡ footerBytes d footer → tiles ≡ start d footer "tiles"
+      → joined (numberOutside footer 8 leastTiles mostTiles refusals.tiles tiles) (others tiles ++ (lengthCheck ∷ []))
+      ≡ first (checksFromTilesBy current d footer F)
+  from-joined tiles h q =
       let a = after d footer (start d footer "tiles") (d .fields) refl refl in
-      joined-first (noFlag footer dense) (others dense tiles)
+      joined-first (numberOutside footer 8 leastTiles mostTiles refusals.tiles tiles) (others tiles)
       (not (eqb (little footer (length footer - 8) 8) (length footer - 8))) refusals.bytes (length footer) (omega arith)
-      ∙ ap first (rw (
-        h,
-        p,
-        q,
-        null-domain-next d footer,
-        domain-next d footer,
-        a .last-cells,
-        a .timestamps,
-        a .deletes,
-        a .rtree,
-        length-last d footer,
-      ))
+      ∙ ap first (rw (h, q, a .last-cells, a .timestamps, a .deletes, a .rtree, length-last d footer))

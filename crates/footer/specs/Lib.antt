@@ -2,3 +2,4 @@
 pub mod Fields
 pub mod Checks
 pub mod Answer
+pub mod Code

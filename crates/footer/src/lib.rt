@@ -8,12 +8,13 @@ ghost use lib.ListN.{length, getD, take, drop};
 ghost use Rattle.answers.specs.Checks.{first};
 ghost use Rattle.description.specs.Limits.{mostFields};
 ghost use Rattle.description.specs.Description.{boxBytes, sidesOf};
-ghost use Rattle.boxes.specs.Boxes.{rangesRefusal, boxOf};
-ghost use Rattle.footer.specs.Fields.{start, domainBytes};
+ghost use Rattle.description.specs.Rules.{current};
+ghost use Rattle.boxes.specs.Boxes.{rangesRefusal};
 ghost use Rattle.footer.specs.Checks.{noFlag, flagSet, numberOutside, fileOffsetsRefusal, headChecks};
-ghost use Rattle.footer.specs.Checks.{fieldChecks, footerRefusal};
+ghost use Rattle.footer.specs.Checks.{checksBeforeTiles, checksFromTilesBy, footerRefusal};
 ghost use Rattle.footer.specs.Answer.{cellsOf, entries, checkedAnswer, footerAnswer, refusedFooter};
-ghost use Rattle.footer.specs.Answer.{acceptedChecked, acceptedFooter, schemaName, tileCells, allCells};
+ghost use Rattle.footer.specs.Answer.{acceptedFooter, schemaName, tileCells, allCells};
+ghost use Rattle.footer.specs.Code.Places.{BeforeTiles, FromTiles, ReadOf};
 
 // What opening a tree, the name and the cells need of a footer. `domain` is the start of the domain's box, 0 where
 // refused.
@@ -96,7 +97,7 @@ pub fn open(description: Description, file_size: u64, bytes: &[u8]) -> Footer
     let to = from + description.box_bytes();
     let kinds = description.kinds;
     let domain = boxes::read_box(&bytes[from..to], kinds, description.dimensions);
-    read(description, bytes, checked, domain, to)
+    read(description, bytes, checked, domain)
 }
 
 // The schema name as that part of the lent footer; an empty part where the footer is refused.
@@ -141,45 +142,30 @@ pub fn total_cells(description: Description, file_size: u64, bytes: &[u8]) -> u6
     (checked.tiles - 1) * description.capacity + checked.last_cells
 }
 
-// Every number of an accepted footer, by its small answer, its domain and the start of its tile number.
-fn read(
-    description: Description,
-    bytes: &[u8],
-    checked: Checked,
-    domain: [Side; 4],
-    tiles: usize,
-) -> Footer
-    requires { ⌜ (checked ≡ acceptedChecked description (now bytes))
-        × (tiles ≡ start description (now bytes) "tiles") ⌝ }
-    requires { ⌜ domain ≡ boxOf (description .kinds) (sidesOf (description .dimensions)) (domainBytes description (now
-        bytes)) ⌝ }
-    requires { ⌜ (tiles + 50 + 88 * description .fields ≡ length (now bytes)) × (description .fields ≤ mostFields) × (2
-        ≤ checked .domain) ⌝ }
+// Every number of an accepted footer, by its small answer and its domain.
+fn read(description: Description, bytes: &[u8], checked: Checked, domain: [Side; 4]) -> Footer
+    requires { ⌜ ReadOf description (now bytes) checked domain ⌝ }
     ensures { λ r. ⌜ r ≡ acceptedFooter description (now (bytes .entry)) ⌝ }
 {
     let n = description.fields as usize;
     let dense = checked.domain as usize - 2;
-    let null_domain = dense + 1;
-    let timestamps = tiles + 16;
-    let deletes = tiles + 17;
+    let tiles = checked.domain as usize + description.box_bytes();
     let sizes = tiles + 18;
     let rtree = sizes + 24 * n;
     let offsets = rtree + 8;
     let fragment = offsets + 64 * n;
-    let conditions = fragment + 8;
-    let length = fragment + 16;
     Footer {
         number: 0,
         place: 0,
         version: order::u32_at(bytes, 0) as u64,
         name_size: checked.name_size,
         dense: byte_at(bytes, dense),
-        null_domain: byte_at(bytes, null_domain),
+        null_domain: byte_at(bytes, dense + 1),
         domain: domain,
         tiles: checked.tiles,
         last_cells: checked.last_cells,
-        timestamps: byte_at(bytes, timestamps),
-        deletes: byte_at(bytes, deletes),
+        timestamps: byte_at(bytes, tiles + 16),
+        deletes: byte_at(bytes, tiles + 17),
         file_sizes: list_at(bytes, sizes, 0, n),
         file_var_sizes: list_at(bytes, sizes, 1, n),
         file_validity_sizes: list_at(bytes, sizes, 2, n),
@@ -193,8 +179,8 @@ fn read(
         sums: list_at(bytes, offsets, 6, n),
         null_counts: list_at(bytes, offsets, 7, n),
         fragment: order::u64_at(bytes, fragment),
-        conditions: order::u64_at(bytes, conditions),
-        length: order::u64_at(bytes, length),
+        conditions: order::u64_at(bytes, fragment + 8),
+        length: order::u64_at(bytes, fragment + 16),
     }
 }
 
@@ -253,7 +239,8 @@ fn check_footer(description: Description, file_size: u64, bytes: &[u8]) -> Refus
     if size.number != 0 {
         return size;
     }
-    check_fields(description, file_size, bytes, dense, tiles)
+    let before = check_before_tiles(description, bytes, dense, tiles);
+    before.or(check_from_tiles(description, file_size, bytes, tiles))
 }
 
 // The description; then the two fields that the places of all others go by.
@@ -279,43 +266,41 @@ fn check_head(description: Description, bytes: &[u8]) -> Refusal
         ))
 }
 
-// Field by field in footer order, the length field last; by the starts of the dense flag and of the tile number.
-fn check_fields(
-    description: Description,
-    file_size: u64,
-    bytes: &[u8],
-    dense: usize,
-    tiles: usize,
-) -> Refusal
-    requires { ⌜ (dense ≡ start description (now bytes) "dense") × (tiles ≡ start description (now bytes) "tiles") ⌝ }
-    requires { ⌜ (dense + 2 + boxBytes description ≡ tiles) × (tiles + 50 + 88 * description .fields ≡ length (now
-        bytes)) ⌝ }
-    requires { ⌜ length (now bytes) ≤ «file_size» ⌝ }
-    ensures { λ r. ⌜ r ≡ first (fieldChecks description (now (bytes .entry)) «file_size») ⌝ }
+// Field by field in footer order: those before the tile number, by the starts of the dense flag and of that number.
+fn check_before_tiles(description: Description, bytes: &[u8], dense: usize, tiles: usize) -> Refusal
+    requires { ⌜ BeforeTiles description (now bytes) dense tiles ⌝ }
+    ensures { λ r. ⌜ r ≡ first (checksBeforeTiles description (now (bytes .entry))) ⌝ }
 {
-    let n = description.fields as usize;
-    let total = bytes.len();
-    let length = total - 8;
-    let limit = file_size - total as u64;
     let null_domain = dense + 1;
     let domain = dense + 2;
-    let last_cells = tiles + 8;
-    let timestamps = tiles + 16;
-    let deletes = tiles + 17;
-    let rtree = tiles + 18 + 24 * n;
-    let offsets = 8 * n + 3;
     check_flag(bytes, dense)
         .or(check_set(bytes, dense, Refusal::DENSE))
         .or(check_flag(bytes, null_domain))
         .or(check_set(bytes, null_domain, Refusal::NULL_DOMAIN))
         .or(check_domain(description, bytes, domain, tiles))
-        .or(check_number(
+}
+
+// The tile number and all after it, the length field last.
+fn check_from_tiles(description: Description, file_size: u64, bytes: &[u8], tiles: usize) -> Refusal
+    requires { ⌜ FromTiles description (now bytes) «file_size» tiles ⌝ }
+    ensures { λ r. ⌜ r ≡ first (checksFromTilesBy current description (now (bytes .entry)) «file_size») ⌝ }
+{
+    let n = description.fields as usize;
+    let total = bytes.len();
+    let length = total - 8;
+    let limit = file_size - total as u64;
+    let last_cells = tiles + 8;
+    let timestamps = tiles + 16;
+    let deletes = tiles + 17;
+    let rtree = tiles + 18 + 24 * n;
+    let offsets = 8 * n + 3;
+    check_number(
             bytes,
             tiles,
             Description::LEAST_TILES,
             Description::MOST_TILES,
             Refusal::TILES,
-        ))
+        )
         .or(check_number(
             bytes,
             last_cells,

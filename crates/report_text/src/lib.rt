@@ -115,8 +115,7 @@ fn open_and_query(
     offsets: &[u8],
     tiles: &mut [u32],
 ) -> Outcome
-    requires { ⌜ length (now tree) ≤ mostBytes ⌝ }
-    requires { ⌜ mostFound ≤ length (now tiles) ⌝ }
+    requires { ⌜ (length (now tree) ≤ mostBytes) × (mostFound ≤ length (now tiles)) ⌝ }
     ensures { λ r. ⌜ Renders (answerText asked (now (footer .entry)) (now (tree .entry)) (now (offsets .entry)))
         (now (offsets .entry)) (now (tiles .exit)) r ⌝ }
 {
@@ -132,8 +131,7 @@ fn open_and_query(
     if listed.number != 0 {
         return ended(false, listed.number, listed.place);
     }
-    let window = asked.window;
-    let answer = query::query(description, opened.tiles, tree, window, tiles);
+    let answer = query::query(description, opened.tiles, tree, asked.window, tiles);
     if answer.number != 0 {
         return ended(false, answer.number, answer.place);
     }

@@ -1,22 +1,22 @@
 -- Floats that are no NaNs are ordered by their values as their patterns are by their keys: so the lower value of two is that of
--- the pattern with the lower key (`lower-of`, `higher-of`). And which patterns are finite (`finite-pattern`).
+-- the pattern with the lower key (`lower-of`, `higher-of`).
 -- Assumes nothing.
 use mathlib.Core.Path.{_≡_, refl, sym, ap, _∙_}
 use mathlib.Core.Bool.{Bool, true, false, not, _&&_, cond, true≢false}
 use mathlib.Core.List.{List}
-use Prim.Native.Nat.{ℕ, suc, _+_, _*_, _%_, _^_, _≤_, _<_}
+use Prim.Native.Nat.{ℕ, suc, _+_, _*_, _^_, _≤_, _<_}
 use native.Mathlib.Omega.{arith}
 use lib.Dec.{T, leb, ltb}
 use lib.ListN.{getD}
-use lib.Ieee.{Float, nan, inf, fin, Format, binary32, binary64, up, down, below, lt, le, eq, hid, ones, top, ofBits, toBits, nanBits, isNan}
+use lib.Ieee.{Float, nan, inf, fin, Format, binary32, binary64, up, down, below, lt, le, eq, ofBits, toBits, nanBits, isNan}
 use lib.Ieee.Bits.{nanBits-is}
-use borrow.Author.Tests.{lt-ltb, le-ltb, leb-true, leb-false, ne-eqb}
+use borrow.Author.Tests.{lt-ltb, le-ltb, leb-true, leb-false}
 use mir.Val.{Fits, widthOf}
-use Rattle.order.specs.Key.{floatKey, floatAtMost, infinite}
+use Rattle.order.specs.Key.{floatKey}
 use Rattle.order.proofs.Tests.{not-leb}
 use Rattle.order.proofs.Sides.{atMost, either-is}
 use Rattle.order.proofs.Floats.{le-by-key}
-use Rattle.order.proofs.Read.{nan-doubled, bits-read, no-nan}
+use Rattle.order.proofs.Read.{bits-read, no-nan}
 use Rattle.description.specs.declared.Kind.{Kind}
 use Rattle.description.specs.declared.Kind.the-variants.{Float32, Float64}
 use Rattle.description.specs.Kinds as kinds
@@ -74,24 +74,11 @@ module _ (f : Format) (a b : ℕ) (p : nanBits f a ≡ false) (q : nanBits f b �
     pub higher-of : r ≡ cond (le y x) x y → r ≡ cond (ltb (floatKey f a) (floatKey f b)) (ofBits f b) (ofBits f a)
     higher-of h = h ∙ rw (d, e, le-by-key f b a q p) (other-way (floatKey f b) (floatKey f a) (ofBits f a) (ofBits f b))
 
--- below the infinity's magnitude a pattern is finite
-pub finite-pattern : (f : Format) (p : ℕ) → 2 * (p % top f) < 2 * (ones f * hid f) → (nanBits f p ≡ false) × (infinite f p ≡ false)
-unfolding infinite
-finite-pattern f p h = (
-  sym (nan-doubled f p) ∙ le-ltb (2 * (ones f * hid f)) (2 * (p % top f)) (omega arith),
-  ne-eqb (p % top f) (ones f * hid f) (λ e. omega (arith, e)),
-)
-
 -- the ends of a range that has no NaN
 pub no-nans : (kind : Kind) (s : List ℕ) (at : ℕ) → hasNan (endsAt kind s at) ≡ false
     → (kinds.isNan kind (endsAt kind s at .low) ≡ false) × (kinds.isNan kind (endsAt kind s at .high) ≡ false)
 unfolding endsAt
 no-nans kind s at h = numbers (endsAt kind s at) h
-
--- a value that is compared by the patterns it was read of
-pub at-most-read : (f : Format) (a b : ℕ) (r : Bool) → Fits (widthOf f) a → Fits (widthOf f) b → nanBits f a ≡ false → nanBits f b ≡ false
-    → r ≡ floatAtMost f (toBits f (ofBits f a)) (toBits f (ofBits f b)) → r ≡ floatAtMost f a b
-at-most-read f a b r h k p q e = e ∙ rw (bits-read f a h p, bits-read f b k q)
 
 -- a kind of floats
 pub record FloatKind (f : Format) (kind : Kind) : Type 0 where

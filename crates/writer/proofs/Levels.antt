@@ -29,10 +29,11 @@ use Rattle.tree.proofs.Counts.{first-child}
 use Rattle.tree.proofs.Places.{start-root, start-down, leaves-end, level-inside}
 use Rattle.written.specs.Body.{levelBytes, levelsDown, bodyWith, writtenBox, writtenBody}
 use Rattle.written.proofs.Boxes.{box-sized, box-numbers}
-use Rattle.writer.specs.Code.Rows.{boxIn, parentOf, levelOf, NoNan, Levels, Filling}
+use Rattle.leaves.specs.Code.Sound.{boxIn}
+use Rattle.leaves.proofs.Ends.{ends-part}
+use Rattle.writer.specs.Code.Rows.{parentOf, levelOf, NoNan, Levels, Filling}
 use Rattle.writer.proofs.Stores.{drop-from, store-both}
 use Rattle.writer.proofs.Choosing.{best-same}
-use Rattle.writer.proofs.Rows.{ends-part}
 
 -- the boxes of a row decide the least box around it
 module _ (kinds : List Dimension) (m : ℕ) (box other : ℕ → List ℕ) (k more : ℕ)

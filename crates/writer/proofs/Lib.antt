@@ -6,4 +6,3 @@ pub mod Floats
 pub mod Rows
 pub mod Levels
 pub mod Checked
-pub mod Sound

@@ -9,12 +9,10 @@ use native.Mathlib.Nat.{add-assoc, mul-le-mul-right}
 use native.Mathlib.Omega.{arith}
 use lib.ListN.{length, take, drop, length-append, length-take, length-drop}
 use lib.Seq.{sets}
-use borrow.Author.Tests.{le-leb}
 use Rattle.answers.specs.Runs.{join}
 use Rattle.answers.proofs.Runs.{Each}
 use Rattle.answers.proofs.Joined.{join-length, part-in, sum-same}
-use Rattle.order.specs.Little.{firstOfTwo, secondOfTwo, bytesOf}
-use Rattle.order.proofs.Little.{little-part}
+use Rattle.order.specs.Little.{bytesOf}
 use Rattle.order.proofs.Bytes.{bytes-length}
 use Rattle.description.specs.declared.Kind.{Kind}
 use Rattle.description.specs.declared.Dimension.{Dimension}
@@ -28,25 +26,12 @@ use Rattle.boxes.specs.Least.{lowestAt, highestAt, leastSide}
 use Rattle.boxes.proofs.Least.{around-length}
 use Rattle.tree.specs.Shape.{boxes}
 use Rattle.tree.proofs.Counts.{first-child}
-use Rattle.writer.specs.Code.Rows.{boxIn, lowestOf, highestOf, sideOf, parentOf, levelOf, Levels}
+use Rattle.leaves.specs.Code.Sound.{boxIn}
+use Rattle.leaves.proofs.Ends.{ends-part}
+use Rattle.writer.specs.Code.Rows.{lowestOf, highestOf, sideOf, parentOf, levelOf, Levels}
 use Rattle.writer.proofs.Stores.{drop-past, store-both, store-next}
 use Rattle.writer.proofs.Choosing.{best-same}
 use Rattle.writer.proofs.Sides.{lowest-in, highest-in, box-before}
-
--- a range in a part of the bytes
-pub ends-part : (kind : Kind) (s : List ℕ) (p b q : ℕ) → q + (endBytes kind + endBytes kind) ≤ b → p + b ≤ length s
-    → endsAt kind (take b (drop p s)) q ≡ endsAt kind s (p + q)
-unfolding endsAt firstOfTwo secondOfTwo
-ends-part kind s p b q h there =
-    let w = endBytes kind in
-    let long : length (take b (drop p s)) ≡ b = simp (length-take, length-drop) (omega arith) in
-    rw (
-      le-leb (q + (w + w)) (length (take b (drop p s))) (omega (arith, long)),
-      le-leb (p + q + (w + w)) (length s) (omega arith),
-      little-part s p b q w (omega arith),
-      little-part s p b (q + w) w (omega arith),
-      add-assoc p q w,
-    )
 
 -- a row in the bytes `rest`
 module _ (kinds : List Dimension) (m : ℕ) (rest : List ℕ) (k more : ℕ) (there : (k + suc more) * sideStart kinds m ≤ length rest) where

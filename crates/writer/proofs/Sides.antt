@@ -1,7 +1,7 @@
 -- One side of a row's boxes as it stands in a level: the boxes that are chosen are of the row (`lowest-in`, `highest-in`), so
 -- their ends are there, and the bytes of both ends, one after the other, are the side (`side-bytes`).
 -- Assumes nothing.
-use mathlib.Core.Path.{_≡_, _∙_}
+use mathlib.Core.Path.{_≡_}
 use mathlib.Core.List.{List, _++_}
 use Prim.Native.Nat.{ℕ, suc, _+_, _*_, _≤_, _<_}
 use native.Mathlib.Nat.{mul-le-mul-left, mul-le-mul-right}
@@ -12,8 +12,7 @@ use Rattle.order.specs.Little.{firstOfTwo, secondOfTwo, bytesOf}
 use Rattle.description.specs.declared.Kind.{Kind}
 use Rattle.description.specs.Kinds.{endBytes, rangeBytes}
 use Rattle.description.proofs.Sides.{two-ends, range-bytes-most}
-use Rattle.ranges.specs.Ranges.{endsAt, fitted}
-use Rattle.ranges.proofs.Reading.{fitted-same, ends-at-fit}
+use Rattle.ranges.specs.Ranges.{endsAt}
 use Rattle.boxes.proofs.Least.{best-in}
 use Rattle.writer.specs.Code.Rows.{lowestOf, highestOf, sideOf, SideRow}
 use Rattle.writer.proofs.Stores.{bytes-there}
@@ -43,14 +42,6 @@ module _ {kind : Kind} {level : List ℕ} {b side first count : ℕ} (row : Side
   row-fits =
       let least : 1 ≤ b = omega (arith, row .inside, range-bytes-most kind) in
       omega (arith, row .there, mul-le-mul-left (first + count) least)
-
--- the end that a pattern was read of
-module _ (s : List ℕ) (byte : (i : ℕ) → getD s i 0 < 256) (k : Kind) (at : ℕ) where
-  pub low-fitted : {p x : ℕ} → p ≡ endsAt k s at .low → x ≡ fitted k p → x ≡ endsAt k s at .low
-  low-fitted e q = q ∙ rw (e, fitted-same k (endsAt k s at .low) (ends-at-fit s byte k at .0))
-
-  pub high-fitted : {p x : ℕ} → p ≡ endsAt k s at .high → x ≡ fitted k p → x ≡ endsAt k s at .high
-  high-fitted e q = q ∙ rw (e, fitted-same k (endsAt k s at .high) (ends-at-fit s byte k at .1))
 
 -- both ends that are chosen, as bytes
 module _ (kind : Kind) (rest : List ℕ) (byte : (i : ℕ) → getD rest i 0 < 256) (b side first more : ℕ)

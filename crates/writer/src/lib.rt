@@ -1,34 +1,31 @@
-// The R-tree body written from its leaves: everything is checked first; then the leaves go to their place, and each
-// level is made of the one below it, where that stands in the output buffer.
-use answers::Refusal;
+// The R-tree body written from its leaves: everything is checked first, by `leaves`; then the leaves go to their place,
+// and each level is made of the one below it, where that stands in the output buffer.
 use description::Description;
 use description::Kind;
 use ranges::Patterns;
 use written::Written;
 ghost use mathlib.Core.Path.{_≡_};
-ghost use mathlib.Core.Bool.{true, false, cond};
+ghost use mathlib.Core.Bool.{cond};
 ghost use mathlib.Core.List.{_++_};
-ghost use Rattle.answers.specs.Refusals.{none};
 ghost use Rattle.answers.specs.Runs.{join};
 ghost use Prim.Native.Nat.{_+_, _-_, _*_, _%_, _^_, _≤_, _<_};
 ghost use lib.Dec.{ltb};
-ghost use lib.Ieee.{binary32, binary64, nanBits, lt, le};
+ghost use lib.Ieee.{lt, le};
 ghost use lib.ListN.{length, getD, drop};
 ghost use lib.Seq.{sets};
 ghost use mir.Syntax.{w32};
-ghost use Rattle.order.specs.Key.{signedKey, infinite};
+ghost use Rattle.order.specs.Key.{signedKey};
 ghost use Rattle.order.specs.Little.{bytesOf};
-ghost use Rattle.description.specs.Limits.{Sizes};
 ghost use Rattle.description.specs.Kinds.{endBytes, rangeBytes, key};
 ghost use Rattle.description.specs.Description.{sidesOf, boxBytes};
 ghost use Rattle.ranges.specs.Ranges.{endsAt};
 ghost use Rattle.boxes.specs.Least.{around};
-ghost use Rattle.tree.specs.Shape.{mostBoxBytes, bodyBytes};
+ghost use Rattle.tree.specs.Shape.{bodyBytes};
 ghost use Rattle.written.specs.Body.{writtenBody};
-ghost use Rattle.written.specs.Writing.{refusedWriting, lengthTold, sizesRefusal, lengthAnswer};
 ghost use Rattle.written.specs.Writing.{writeAnswer, writeBuffer};
-ghost use Rattle.writer.specs.Code.Rows.{boxIn, sideOf, parentOf, levelOf, leavesRefusal, LeastEnds};
-ghost use Rattle.writer.specs.Code.Rows.{SoundEnds, SoundSide, NoNan, SideRow, Row, Levels, Filling};
+ghost use Rattle.leaves.specs.Code.Sound.{boxIn};
+ghost use Rattle.writer.specs.Code.Rows.{sideOf, parentOf, levelOf, LeastEnds, NoNan};
+ghost use Rattle.writer.specs.Code.Rows.{SideRow, Row, Levels, Filling};
 
 // The whole body goes to the start of the buffer, if it has the room.
 pub fn write(
@@ -43,229 +40,12 @@ pub fn write(
     ensures buffer { λ _. ⌜ now (out .exit) ≡ writeBuffer description tiles fanout (now (leaves .entry))
         (now (out .entry)) ⌝ }
 {
-    let told = check(description, tiles, fanout, leaves, out.len());
+    let told = leaves::check(description, tiles, fanout, leaves, out.len());
     if told.number != 0 {
         return told;
     }
     fill(description, tiles as usize, fanout as usize, leaves, out);
     told
-}
-
-// How many bytes the body has.
-pub fn body_length(description: Description, tiles: u64, fanout: u64) -> Written
-    ensures { λ r. ⌜ r ≡ lengthAnswer description tiles fanout ⌝ }
-{
-    let told = check_sizes(description, tiles, fanout);
-    if told.number != 0 {
-        return refused(told);
-    }
-    let bytes = whole(tiles as usize, fanout as usize, description.box_bytes());
-    length_told(bytes)
-}
-
-// All the checks, for so much room.
-fn check(description: Description, tiles: u64, fanout: u64, leaves: &[u8], room: usize) -> Written
-    ensures { λ r. ⌜ r ≡ writeAnswer description tiles fanout (now (leaves .entry)) room ⌝ }
-{
-    let sizes = check_sizes(description, tiles, fanout);
-    if sizes.number != 0 {
-        return refused(sizes);
-    }
-    let n = tiles as usize;
-    let box_bytes = description.box_bytes();
-    if leaves.len() != n * box_bytes {
-        return refused(Refusal::new(Refusal::BYTES, leaves.len() as u64));
-    }
-    let ranges = check_leaves(description, n, leaves);
-    if ranges.number != 0 {
-        return refused(ranges);
-    }
-    let bytes = whole(n, fanout as usize, box_bytes);
-    if room < bytes {
-        return refused(Refusal::new(Refusal::ROOM, 0));
-    }
-    length_told(bytes)
-}
-
-// 1, 10, 13.
-fn check_sizes(description: Description, tiles: u64, fanout: u64) -> Refusal
-    ensures { λ r. ⌜ r ≡ sizesRefusal description tiles fanout ⌝ }
-{
-    let least = Description::LEAST_FANOUT as u64;
-    let most = Description::MOST_FANOUT as u64;
-    let no_tiles = description::outside(Description::LEAST_TILES, Description::MOST_TILES, tiles);
-    let no_fanout = description::outside(least, most, fanout);
-    description
-        .check()
-        .or(Refusal::when(no_tiles, Refusal::TILES, 0))
-        .or(Refusal::when(no_fanout, Refusal::FANOUT, 0))
-}
-
-// The ranges of each leaf: the first fault, placed in the lent leaves. Leaf by leaf only where some range has one.
-fn check_leaves(description: Description, tiles: usize, leaves: &[u8]) -> Refusal
-    requires { ⌜ length (now leaves) ≡ tiles * boxBytes description ⌝ }
-    ensures { λ r. ⌜ r ≡ leavesRefusal description tiles (now (leaves .entry)) ⌝ }
-{
-    if all_sound(description, tiles, leaves) {
-        return Refusal::none();
-    }
-    first_fault(description, tiles, leaves)
-}
-
-// Whether no range has a fault, dimension by dimension.
-fn all_sound(description: Description, tiles: usize, leaves: &[u8]) -> bool
-    requires { ⌜ length (now leaves) ≡ tiles * boxBytes description ⌝ }
-    ensures { λ r. ⌜ (r ≡ true → leavesRefusal description tiles (now (leaves .entry)) ≡ none) ⌝ }
-{
-    let kinds = description.kinds;
-    let box_bytes = description.box_bytes();
-    let n = description::sides_of(description.dimensions);
-    let mut side: usize = 0;
-    let mut i: usize = 0;
-    while i < n {
-        let d = kinds[i];
-        let kind = d.kind;
-        if !side_sound(kind, box_bytes, side, tiles, leaves) {
-            return false;
-        }
-        side += kind.range_bytes();
-        i += 1;
-    }
-    true
-}
-
-// The same of one dimension. With its kind known where the loop stands, the loop asks for it no more.
-fn side_sound(kind: Kind, box_bytes: usize, side: usize, tiles: usize, leaves: &[u8]) -> bool
-    requires { ⌜ side + rangeBytes kind ≤ «box_bytes» ⌝ }
-    requires { ⌜ length (now leaves) ≡ tiles * «box_bytes» ⌝ }
-    ensures { λ r. ⌜ (r ≡ true → SoundSide kind (now (leaves .entry)) «box_bytes» side tiles) ⌝ }
-{
-    match kind {
-        Kind::Int32 => sound_in(Kind::Int32, box_bytes, side, tiles, leaves),
-        Kind::Int64 => sound_in(Kind::Int64, box_bytes, side, tiles, leaves),
-        Kind::Float32 => sound_in(Kind::Float32, box_bytes, side, tiles, leaves),
-        Kind::Float64 => sound_in(Kind::Float64, box_bytes, side, tiles, leaves),
-        Kind::Uint64 => sound_in(Kind::Uint64, box_bytes, side, tiles, leaves),
-    }
-}
-
-fn sound_in(kind: Kind, box_bytes: usize, side: usize, tiles: usize, leaves: &[u8]) -> bool
-    requires { ⌜ side + rangeBytes kind ≤ «box_bytes» ⌝ }
-    requires { ⌜ length (now leaves) ≡ tiles * «box_bytes» ⌝ }
-    ensures { λ r. ⌜ (r ≡ true → SoundSide kind (now (leaves .entry)) «box_bytes» side tiles) ⌝ }
-{
-    let mut k: usize = 0;
-    while k < tiles {
-        if !sound_at(leaves, k * box_bytes + side, kind) {
-            return false;
-        }
-        k += 1;
-    }
-    true
-}
-
-// The same of one range. A finite float is no NaN, so its value is at hand.
-fn sound_at(bytes: &[u8], at: usize, kind: Kind) -> bool
-    requires { ⌜ at + rangeBytes kind ≤ length (now bytes) ⌝ }
-    ensures { λ r. ⌜ (r ≡ true → SoundEnds kind (endsAt kind (now (bytes .entry)) at .low)
-        (endsAt kind (now (bytes .entry)) at .high)) ⌝ }
-{
-    let ends = ends_at(bytes, at, kind);
-    match kind {
-        Kind::Float32 => sound_f32(low_four(ends.low), low_four(ends.high)),
-        Kind::Float64 => sound_f64(ends.low, ends.high),
-        _ => ranges::key_of(kind, ends.low) <= ranges::key_of(kind, ends.high),
-    }
-}
-
-fn sound_f32(low: u32, high: u32) -> bool
-    ensures { λ r. ⌜ (r ≡ true → SoundEnds Kind.Float32 low high) ⌝ }
-{
-    if !finite_f32(low) {
-        return false;
-    }
-    if !finite_f32(high) {
-        return false;
-    }
-    order::f32_at_most(f32::from_bits(low), f32::from_bits(high))
-}
-
-// The same of 64 bits.
-fn sound_f64(low: u64, high: u64) -> bool
-    ensures { λ r. ⌜ (r ≡ true → SoundEnds Kind.Float64 low high) ⌝ }
-{
-    if !finite_f64(low) {
-        return false;
-    }
-    if !finite_f64(high) {
-        return false;
-    }
-    order::f64_at_most(f64::from_bits(low), f64::from_bits(high))
-}
-
-// Neither a NaN's pattern nor an infinity's: doubled, the pattern has lost its sign, and is below the infinity's.
-fn finite_f32(p: u32) -> bool
-    ensures { λ r. ⌜ (r ≡ true → (nanBits binary32 p ≡ false) × (infinite binary32 p ≡ false)) ⌝ }
-{
-    2 * (p % 0x8000_0000) < 0xff00_0000
-}
-
-// The same of 64 bits.
-fn finite_f64(p: u64) -> bool
-    ensures { λ r. ⌜ (r ≡ true → (nanBits binary64 p ≡ false) × (infinite binary64 p ≡ false)) ⌝ }
-{
-    2 * (p % 0x8000_0000_0000_0000) < 0xffe0_0000_0000_0000
-}
-
-// The first fault of the leaves.
-fn first_fault(description: Description, tiles: usize, leaves: &[u8]) -> Refusal
-    requires { ⌜ length (now leaves) ≡ tiles * boxBytes description ⌝ }
-    ensures { λ r. ⌜ r ≡ leavesRefusal description tiles (now (leaves .entry)) ⌝ }
-{
-    let kinds = description.kinds;
-    let box_bytes = description.box_bytes();
-    let mut k: usize = 0;
-    let mut at: usize = 0;
-    while k < tiles {
-        let end = at + box_bytes;
-        let told = boxes::check_ranges(&leaves[at..end], kinds, description.dimensions);
-        if told.number != 0 {
-            return Refusal::new(told.number, at as u64 + told.place);
-        }
-        at = end;
-        k += 1;
-    }
-    Refusal::none()
-}
-
-fn refused(told: Refusal) -> Written
-    ensures { λ r. ⌜ r ≡ refusedWriting told ⌝ }
-{
-    Written {
-        number: told.number,
-        place: told.place,
-        length: 0,
-    }
-}
-
-fn length_told(bytes: usize) -> Written
-    ensures { λ r. ⌜ r ≡ lengthTold bytes ⌝ }
-{
-    Written {
-        number: 0,
-        place: 0,
-        length: bytes as u64,
-    }
-}
-
-// 8 + 8L + B times all boxes.
-fn whole(tiles: usize, fanout: usize, box_bytes: usize) -> usize
-    requires { ⌜ Sizes tiles fanout ⌝ }
-    requires { ⌜ «box_bytes» ≤ mostBoxBytes ⌝ }
-    ensures { λ r. ⌜ r ≡ bodyBytes fanout tiles «box_bytes» ⌝ }
-{
-    let shape = tree::shape_of(tiles, fanout, box_bytes);
-    8 + 8 * shape.levels + box_bytes * shape.boxes
 }
 
 // From the leaves up; the fanout and the level number last.

@@ -5,11 +5,12 @@ use Prim.Native.Nat.{_+_, _*_, _≤_}
 use native.Mathlib.Omega.{arith}
 use borrow.Author.Needs.{needs}
 use Rattle.answers.specs.Checks.{first}
-use Rattle.answers.proofs.Checks.{go-on, halt, join-next}
+use Rattle.answers.proofs.Checks.{go-on, halt, join-next, first-append}
 use Rattle.description.specs.Limits.{mostName, mostFields}
 use Rattle.description.specs.Description.{boxBytes}
 use Rattle.footer.specs.Fields.{footerBytes}
 use Rattle.footer.specs.Checks.{sizeChecks}
+use Rattle.footer.specs.Code.Places.{BeforeTiles, FromTiles}
 use Rattle.footer.proofs.Fields.{footer-bytes, start-dense, start-tiles}
 use Rattle.footer.proofs.Parts.{footer-parts, sizes-joined}
 use Rattle.footer.proofs.Passed.{head-passed, sizes-passed}
@@ -58,8 +59,14 @@ returns-2 c =
     let t = size-told o in
     t ∙ sym (footer-parts _ _ _ ∙ go-on _ _ (rw (h .check-head .ensures) at (e .if1 .left)) ∙ halt _ _ (rw t at (c .if2 .taken)))
 
-check-fields-requires : tie.Need-check-fields-requires
-check-fields-requires c κs =
+-- the places that the fields are checked by
+places : (c : tie.Else2)
+    → (let a = c .before .before .before .before .before .before .before .before .before .before .before .args in
+    let u = c .before .before .before .before .before .before in
+    let dense = 12 + u .u64-at .result in
+    let tiles = dense + 2 + c .before .before .before .before .before .box-bytes .result in
+    BeforeTiles (a .description) (a .bytes .now) dense tiles × FromTiles (a .description) (a .bytes .now) (a .file-size) tiles)
+places c =
     let o = c .before .before in
     let b = o .before .before .before in
     let u = b .before in
@@ -68,17 +75,18 @@ check-fields-requires c κs =
     let z = sizes-passed d (a .file-size) (a .bytes .now) (rw (size-told o) at (c .if2 .left)) in
     let e = u .u64-at .ensures in
     let w = b .box-bytes .ensures in (
-      (omega (arith, e, start-dense d (a .bytes .now)), omega (arith, e, w, start-tiles d (a .bytes .now))),
-      ((omega (arith, w), omega (arith, z, total-is b)), omega (arith, z)),
+      (omega (arith, e, start-dense d (a .bytes .now)), omega (arith, w), omega (arith, z, total-is b)),
+      (omega (arith, e, w, start-tiles d (a .bytes .now)), omega (arith, z, total-is b), omega (arith, z)),
     )
 
 returns-3 : tie.Need-returns-3
 returns-3 c =
-    let o = c .before .before .before in
+    let b = c .before .before in
+    let o = b .before .before .before in
     let e = o .before .before .before .before .before in
     let h = e .before .before in
-    c .check-fields .ensures
-    ∙ sym (footer-parts _ _ _ ∙ go-on _ _ (rw (h .check-head .ensures) at (e .if1 .left)) ∙ go-on _ _ (rw (size-told o) at (c .before .if2 .left)))
+    join-next (c .or2 .ensures) (b .check-before-tiles .ensures) (c .before .check-from-tiles .ensures)
+    ∙ sym (footer-parts _ _ _ ∙ go-on _ _ (rw (h .check-head .ensures) at (e .if1 .left)) ∙ go-on _ _ (rw (size-told o) at (b .before .if2 .left)) ∙ first-append _ _)
 
 pub check-footer-spec : {M : Type 1} → statement M
 check-footer-spec =
@@ -98,5 +106,7 @@ check-footer-spec =
     (λ c κs. search needs)
     (λ c κs. search needs)
     returns-2
-    check-fields-requires
+    (λ c κs. places c .0)
+    (λ c κs. places (c .before) .1)
+    (λ c κs. search needs)
     returns-3)

@@ -8,7 +8,7 @@ use Rattle.description.specs.Description.{sidesOf, boxBytes}
 use Rattle.boxes.specs.Boxes.{boxOf}
 use Rattle.footer.specs.Fields.{domainBytes}
 use Rattle.footer.specs.Answer.{refusedChecked}
-use Rattle.footer.proofs.Fields.{footer-bytes, start-domain, start-tiles}
+use Rattle.footer.proofs.Fields.{footer-bytes, start-domain}
 use Rattle.footer.proofs.Passed.{Ready, ready, checked-number, checked-refused, footer-passed, footer-refused}
 use Rattle.footer.proofs.open.Statement.{statement}
 use Rattle.footer.proofs.open.Tie as tie
@@ -50,14 +50,12 @@ read-requires c κs =
     let a = h .before .before .args in
     let d = a .description in
     let w = whole (b .before) in
-    let q = b .box-bytes .ensures in
-    let p = start-domain d (a .bytes .now) in
-    let t = start-tiles d (a .bytes .now) in (
-      (w .checked, omega (arith, w .domain)),
-      (
-        domain-read c,
-        (omega (arith, w .domain, w .pass .all-bytes, footer-bytes d (a .bytes .now)), w .pass .head .description .most-fields, omega (arith, w .domain)),
-      ),
+    let p = start-domain d (a .bytes .now) in (
+      w .checked,
+      domain-read c,
+      w .pass .head .description .most-fields,
+      omega (arith, w .domain),
+      omega (arith, w .domain, w .pass .all-bytes, footer-bytes d (a .bytes .now)),
     )
 
 returns-2 : tie.Need-returns-2

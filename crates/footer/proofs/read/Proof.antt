@@ -13,7 +13,7 @@ use Rattle.description.specs.Limits.{mostFields}
 use Rattle.footer.specs.declared.Checked.{Checked}
 use Rattle.footer.specs.Fields.{start}
 use Rattle.footer.specs.Answer.{entries, acceptedChecked, acceptedFooter}
-use Rattle.footer.proofs.Fields.{start-version, dense-back, null-domain-next, after}
+use Rattle.footer.proofs.Fields.{start-version, start-domain, start-tiles, dense-back, null-domain-next, after}
 use Rattle.footer.proofs.read.Statement.{statement}
 use Rattle.footer.proofs.read.Tie as tie
 
@@ -25,20 +25,31 @@ moved read p e = e ∙ ap read p
 fit : (bytes from n k m : ℕ) → from + m * (8 * n) + 8 * n ≤ bytes → k ≤ m → from + k * (8 * n) + 8 * n ≤ bytes
 fit bytes from n k m f h = omega (arith, mul-le-mul {n₂ = m} {m₂ = 8 * n} h (le-refl (8 * n)))
 
-module _ (s : tie.Start) (k : ℕ) where
-  abbrev Fits : ℕ → Type 0
-  Fits from =
-      let n = s .args .description .fields in
-      (from + k * (8 * n) + 8 * n ≤ length (s .args .bytes .now)) × (n ≤ mostFields)
+module _ (c : tie.After-box-bytes) where
+  abbrev start-of : tie.Start
+  start-of = c .before .before
 
-  sizes-fit : k ≤ 2 → Fits (s .args .tiles + 18)
-  sizes-fit h = (fit _ (s .args .tiles + 18) (s .args .description .fields) k 2 (omega (arith, s .pre)) h, s .pre .1 .1 .1)
+  abbrev tiles : ℕ
+  tiles = start-of .args .checked .domain + c .box-bytes .result
 
-  offsets-fit : k ≤ 7 → Fits (s .args .tiles + 18 + 24 * s .args .description .fields + 8)
-  offsets-fit h = (
-    fit _ (s .args .tiles + 18 + 24 * s .args .description .fields + 8) (s .args .description .fields) k 7 (omega (arith, s .pre)) h,
-    s .pre .1 .1 .1,
-  )
+  all-there : tiles + 50 + 88 * start-of .args .description .fields ≡ length (start-of .args .bytes .now)
+  all-there = omega (arith, start-of .pre, c .box-bytes .ensures)
+
+  module _ (k : ℕ) where
+    abbrev Fits : ℕ → Type 0
+    Fits from =
+        let n = start-of .args .description .fields in
+        (from + k * (8 * n) + 8 * n ≤ length (start-of .args .bytes .now)) × (n ≤ mostFields)
+
+    sizes-fit : k ≤ 2 → Fits (tiles + 18)
+    sizes-fit h =
+        (fit _ (tiles + 18) (start-of .args .description .fields) k 2 (omega (arith, all-there)) h, start-of .pre .2)
+
+    offsets-fit : k ≤ 7 → Fits (tiles + 18 + 24 * start-of .args .description .fields + 8)
+    offsets-fit h = (
+      fit _ (tiles + 18 + 24 * start-of .args .description .fields + 8) (start-of .args .description .fields) k 7 (omega (arith, all-there)) h,
+      start-of .pre .2,
+    )
 
 returns : tie.Need-returns
 unfolding acceptedChecked acceptedFooter
@@ -50,16 +61,20 @@ returns c =
     let b4 = l3 .before .before .before in
     let b2 = b4 .before .before in
     let v = b2 .before .before in
-    let s = v .before .before in
+    let w = v .before in
+    let s = start-of w in
     let a = s .args in
     let d = a .description in
     let bytes = a .bytes .now in
     let byte : ℕ → ℕ = λ k. getD bytes k 0 in
     let list : ℕ → List ℕ = λ k. entries bytes (d .fields) k in
     let number : ℕ → ℕ = λ k. little bytes k 8 in
-    let e = s .pre .0 .0 in
+    let e = s .pre .0 in
     let f : a .checked .domain - 2 ≡ start d bytes "dense" = ap (λ (x : Checked). x .domain - 2) e ∙ dense-back d bytes in
-    let p = after d bytes (a .tiles) (d .fields) (s .pre .0 .1) refl in
+    let domain : a .checked .domain ≡ start d bytes "domain" = ap (λ (x : Checked). x .domain) e in
+    let g : tiles w ≡ start d bytes "tiles" =
+    omega (arith, domain, start-domain d bytes, start-tiles d bytes, w .box-bytes .ensures) in
+    let p = after d bytes (tiles w) (d .fields) g refl in
     λ i. record {
       number = 0;
       place = 0;
@@ -67,7 +82,7 @@ returns c =
       «name_size» = e i .«name_size»;
       dense = moved byte f (b2 .before .byte-at .ensures) i;
       «null_domain» = moved byte (ap (λ x. x + 1) f ∙ null-domain-next d bytes) (b2 .byte-at2 .ensures) i;
-      domain = s .pre .1 .0 i;
+      domain = s .pre .1 i;
       tiles = e i .tiles;
       «last_cells» = e i .«last_cells»;
       timestamps = moved byte (p .timestamps) (b4 .before .byte-at3 .ensures) i;
@@ -94,10 +109,7 @@ read-spec =
     tie.close
     (tie.spec
     (λ c. search needs)
-    (λ c. search needs)
-    (λ c. search needs)
-    (λ c. search needs)
-    (λ c. search needs)
+    (λ c κs. search needs)
     (λ c. search needs)
     (λ c. search needs)
     (λ c. search needs)
@@ -108,22 +120,27 @@ read-spec =
     (λ c κs. search needs)
     (λ c. search needs)
     (λ c κs. search needs)
+    (λ c. search needs)
     (λ c κs. search needs)
+    (λ c. search needs)
     (λ c κs. search needs)
+    (λ c. search needs)
     (λ c κs. search needs)
-    (λ c κs. sizes-fit (c .before .before .before .before .before .before) 0 (leb→le 0 2 tt))
-    (λ c κs. sizes-fit (c .before .before .before .before .before .before .before) 1 (leb→le 1 2 tt))
-    (λ c κs. sizes-fit (c .before .before .before .before .before .before .before .before) 2 (leb→le 2 2 tt))
+    (λ c κs. sizes-fit (c .before .before .before .before .before) 0 (leb→le 0 2 tt))
+    (λ c κs. sizes-fit (c .before .before .before .before .before .before) 1 (leb→le 1 2 tt))
+    (λ c κs. sizes-fit (c .before .before .before .before .before .before .before) 2 (leb→le 2 2 tt))
     (λ c κs. search needs)
-    (λ c κs. offsets-fit (c .before .before .before .before .before .before .before .before .before .before) 0 (leb→le 0 7 tt))
-    (λ c κs. offsets-fit (c .before .before .before .before .before .before .before .before .before .before .before) 1 (leb→le 1 7 tt))
-    (λ c κs. offsets-fit (c .before .before .before .before .before .before .before .before .before .before .before .before) 2 (leb→le 2 7 tt))
-    (λ c κs. offsets-fit (c .before .before .before .before .before .before .before .before .before .before .before .before .before) 3 (leb→le 3 7 tt))
-    (λ c κs. offsets-fit (c .before .before .before .before .before .before .before .before .before .before .before .before .before .before) 4 (leb→le 4 7 tt))
-    (λ c κs. offsets-fit (c .before .before .before .before .before .before .before .before .before .before .before .before .before .before .before) 5 (leb→le 5 7 tt))
-    (λ c κs. offsets-fit (c .before .before .before .before .before .before .before .before .before .before .before .before .before .before .before .before) 6 (leb→le 6 7 tt))
-    (λ c κs. offsets-fit (c .before .before .before .before .before .before .before .before .before .before .before .before .before .before .before .before .before) 7 (leb→le 7 7 tt))
+    (λ c κs. offsets-fit (c .before .before .before .before .before .before .before .before .before) 0 (leb→le 0 7 tt))
+    (λ c κs. offsets-fit (c .before .before .before .before .before .before .before .before .before .before) 1 (leb→le 1 7 tt))
+    (λ c κs. offsets-fit (c .before .before .before .before .before .before .before .before .before .before .before) 2 (leb→le 2 7 tt))
+    (λ c κs. offsets-fit (c .before .before .before .before .before .before .before .before .before .before .before .before) 3 (leb→le 3 7 tt))
+    (λ c κs. offsets-fit (c .before .before .before .before .before .before .before .before .before .before .before .before .before) 4 (leb→le 4 7 tt))
+    (λ c κs. offsets-fit (c .before .before .before .before .before .before .before .before .before .before .before .before .before .before) 5 (leb→le 5 7 tt))
+    (λ c κs. offsets-fit (c .before .before .before .before .before .before .before .before .before .before .before .before .before .before .before) 6 (leb→le 6 7 tt))
+    (λ c κs. offsets-fit (c .before .before .before .before .before .before .before .before .before .before .before .before .before .before .before .before) 7 (leb→le 7 7 tt))
     (λ c κs. search needs)
+    (λ c. record { fits = omega (arith, all-there (c .before .before .before .before .before .before .before .before .before .before .before .before .before .before .before .before .before .before), start-of (c .before .before .before .before .before .before .before .before .before .before .before .before .before .before .before .before .before .before)) })
     (λ c κs. search needs)
+    (λ c. record { fits = omega (arith, all-there (c .before .before .before .before .before .before .before .before .before .before .before .before .before .before .before .before .before .before .before), start-of (c .before .before .before .before .before .before .before .before .before .before .before .before .before .before .before .before .before .before .before)) })
     (λ c κs. search needs)
     returns)

@@ -14,15 +14,15 @@ lists : (c : tie.After-open-offsets)
 lists c = c .open-offsets .ensures .0 ∙ rw (c .before .before .before .«open» .ensures)
 
 answers : (c : tie.After-query)
-    → (let x = c .before .before .before .before .before .before .before .before .before .before .before .before .before .before .before .before .args in
+    → (let x = c .before .before .before .before .before .before .before .before .before .before .before .before .before .before .before .args in
     c .query .result ≡ answered (x .asked) (x .footer .now) (x .tree .now))
-answers c = c .query .ensures .0 ∙ rw (c .before .before .before .before .before .before .before .before .«open» .ensures)
+answers c = c .query .ensures .0 ∙ rw (c .before .before .before .before .before .before .before .«open» .ensures)
 
 leaves : (c : tie.After-query)
-    → (let x = c .before .before .before .before .before .before .before .before .before .before .before .before .before .before .before .before .args in
+    → (let x = c .before .before .before .before .before .before .before .before .before .before .before .before .before .before .before .args in
     c .query .last .1 .1 .1 .1 .0
     ≡ queryBuffer (x .asked .description) (opened (x .asked) (x .footer .now) (x .tree .now) .tiles) (x .tree .now) (x .asked .window) (x .tiles .now))
-leaves c = c .query .ensures .1 .0 ∙ rw (c .before .before .before .before .before .before .before .before .«open» .ensures)
+leaves c = c .query .ensures .1 .0 ∙ rw (c .before .before .before .before .before .before .before .«open» .ensures)
 
 returns : tie.Need-returns
 returns c =
@@ -50,23 +50,23 @@ returns-3 c =
 returns-4 : tie.Need-returns-4
 returns-4 c =
     let q = c .before .before .before .before .before in
-    let l = q .before .before .before .before .before in
+    let l = q .before .before .before .before in
     let o = l .before .before .before in
     let g = o .before .before in
     let x = g .before .before .before .before .before .before .args in
     renders-query (x .asked) (x .footer .now) (x .tree .now) (x .offsets .now) (not-false _ (g .if1 .left)) (o .«open» .ensures)
-    (l .before .if2 .left) (lists l) (q .before .before .before .if3 .left) (answers q) _ (c .before .if4 .taken) (c .ended4 .ensures)
+    (l .before .if2 .left) (lists l) (q .before .before .if3 .left) (answers q) _ (c .before .if4 .taken) (c .ended4 .ensures)
 
 returns-5 : tie.Need-returns-5
 returns-5 c =
     let q = c .before .before .before .before .before in
-    let l = q .before .before .before .before .before in
+    let l = q .before .before .before .before in
     let o = l .before .before .before in
     let g = o .before .before in
     let s = g .before .before .before .before .before .before in
     let x = s .args in
     renders-listing (x .asked) (x .footer .now) (x .tree .now) (x .offsets .now) (not-false _ (g .if1 .left)) (o .«open» .ensures)
-    (l .before .if2 .left) (lists l) (q .before .before .before .if3 .left) (answers q) (c .before .if4 .left)
+    (l .before .if2 .left) (lists l) (q .before .before .if3 .left) (answers q) (c .before .if4 .left)
     (x .tiles .now) _ (s .pre .0) (s .pre .1) (leaves q) (rw (c .check .ensures, answers q, o .«open» .ensures))
 
 pub open-and-query-spec : {M : Type 1} → statement M

@@ -12,11 +12,12 @@ use Rattle.description.specs.declared.Kind.the-variants.{Float32}
 use Rattle.description.specs.Kinds.{endBytes}
 use Rattle.ranges.specs.Ranges.{endsAt}
 use Rattle.ranges.proofs.Reading.{ends-at-fit}
+use Rattle.leaves.proofs.Ends.{low-fitted, high-fitted}
 use Rattle.writer.specs.Code.Rows.{lowestOf, highestOf, LeastEnds}
 use Rattle.writer.proofs.Choosing.{one-lowest, one-highest}
 use Rattle.writer.proofs.Floats as floats
 use Rattle.writer.proofs.Floats.{float32}
-use Rattle.writer.proofs.Sides.{box-there, first-there, row-fits, low-fitted, high-fitted}
+use Rattle.writer.proofs.Sides.{box-there, first-there, row-fits}
 use Rattle.writer.proofs.least_f32.Statement.{statement}
 use Rattle.writer.proofs.least_f32.Tie as tie
 

@@ -13,7 +13,7 @@ use Rattle.description.specs.Description.{kindAt, sideStart, boxBytes}
 use Rattle.description.proofs.Sides.{start-first, start-up}
 use Rattle.boxes.specs.Least.{leastSide, around}
 use Rattle.boxes.proofs.Walking.{next-place, place-fits}
-use Rattle.writer.specs.Code.Rows.{boxIn}
+use Rattle.leaves.specs.Code.Sound.{boxIn}
 use Rattle.writer.proofs.Rows.{box-past, box-next}
 use Rattle.writer.proofs.put_box.Statement.{statement}
 use Rattle.writer.proofs.put_box.Tie as tie

@@ -3,29 +3,22 @@
 -- Assumes nothing.
 use Prim.Native.Nat.{ℕ, _+_, _-_, _*_, _<_, _≤_, min}
 use mathlib.Core.Path.{_≡_}
-use mathlib.Core.Bool.{true, false}
+use mathlib.Core.Bool.{false}
 use mathlib.Core.List.{List, _++_}
 use lib.ListN.{length, take, drop}
 use Rattle.answers.specs.Runs.{join}
-use Rattle.answers.specs.Checks.{each}
-use Rattle.answers.specs.declared.Refusal.{Refusal}
 use Rattle.order.specs.Little.{bytesOf}
 use Rattle.description.specs.declared.Kind.{Kind}
 use Rattle.description.specs.declared.Description.{Description}
-use Rattle.description.specs.Kinds.{endBytes, rangeBytes, isInfinite, ordered, atMost}
+use Rattle.description.specs.Kinds.{endBytes, rangeBytes}
 use Rattle.description.specs.Description.{kindAt, sideStart, sidesOf, boxBytes}
 use Rattle.ranges.specs.declared.Patterns.{Patterns}
 use Rattle.ranges.specs.Ranges.{endsAt, hasNan}
-use Rattle.verdicts.specs.Verdicts.{verdictAt, storedRefusal}
-use Rattle.boxes.specs.Boxes.{rangesRefusal}
 use Rattle.boxes.specs.Least.{lowestAt, highestAt, around}
 use Rattle.description.specs.Limits.{Sizes}
 use Rattle.tree.specs.Shape.{up, bodyBytes}
 use Rattle.written.specs.Writing.{leafRefusal}
-
--- box c, of b bytes
-abbrev pub boxIn : List ℕ → ℕ → ℕ → List ℕ
-boxIn rest b c = take b (drop (c * b) rest)
+use Rattle.leaves.specs.Code.Sound.{boxIn}
 
 -- Of the boxes from k on, 1 + more of them, the first that has the lowest minimum, and the first that has the highest
 -- maximum, where each box has the side at `side`.
@@ -57,20 +50,6 @@ module _ (d : Description) (f : ℕ) where
   -- the level above it
   unfoldable pub levelOf : List ℕ → ℕ → ℕ → List ℕ
   levelOf rest count parents = bytesOf 8 parents ++ join (parentOf rest count) 0 parents
-
--- the ranges of n leaves
-unfoldable pub leavesRefusal : Description → ℕ → List ℕ → Refusal
-leavesRefusal d n leaves =
-    each (λ k. rangesRefusal (d .kinds) (sidesOf (d .dimensions)) (boxIn leaves (boxBytes d) k) (k * boxBytes d)) 0 n
-
--- ends that are finite and in order
-abbrev pub SoundEnds : Kind → ℕ → ℕ → Type 0
-SoundEnds kind low high =
-    (atMost (ordered kind) low high ≡ true) × (isInfinite kind low ≡ false) × (isInfinite kind high ≡ false)
-
--- no leaf's range at this place of it has a fault
-abbrev pub SoundSide : Kind → List ℕ → ℕ → ℕ → ℕ → Type 0
-SoundSide kind leaves b side n = (k : ℕ) → k < n → storedRefusal (verdictAt kind leaves (k * b + side)) side .number ≡ 0
 
 -- of the boxes from k on, so many, no range has a NaN
 abbrev pub NoNan : Description → List ℕ → ℕ → ℕ → Type 0
