@@ -22,7 +22,7 @@ use Rattle.ranges.specs.declared.Range.{Range}
 use Rattle.ranges.specs.Ranges.{Ends, kindOf, endsAt, endsOf, rangeAt, hasNan, inside}
 use Rattle.ranges.proofs.Comparing.{ends-kind}
 use Rattle.ranges.proofs.Containing.{inside-says}
-use Rattle.ranges.proofs.Reading.{read-inside-left, read-inside-right, part-ends, known-fits}
+use Rattle.ranges.proofs.Reading.{read-inside-left, read-inside-right, known-ends}
 use Rattle.verdicts.specs.Verdicts.{hasInfinity, isFinite, verdict}
 use Rattle.verdicts.proofs.Judging.{sound, stored-clear, stored-finite}
 use Rattle.verdicts.proofs.Reading.{read-verdict, read-finite}
@@ -95,10 +95,7 @@ module _ (k : Kind) (bytes outer : List ℕ) (at : ℕ) (byte : (i : ℕ) → ge
 -- the part of a box that has a finite range of a kind that is known has no NaN
 pub part-nan : (known : Kind) {k : Kind} (s : List ℕ) (at w : ℕ) → k ≡ known → at + rangeBytes k ≤ length s → w ≡ rangeBytes known → isFinite (endsAt k s at) ≡ true
     → hasNan (endsAt known (take w (drop at s)) 0) ≡ false
-part-nan known s at w same there size h =
-    ap hasNan (part-ends known s at w size (omega (arith, known-fits known s at same there)))
-    ∙ ap (λ (x : Kind). hasNan (endsAt x s at)) (sym same)
-    ∙ finite-nan (endsAt _ s at) h
+part-nan known s at w same there size h = ap hasNan (known-ends known s at same there w size) ∙ finite-nan (endsAt _ s at) h
 
 -- ---- a box that is looked at side by side
 module _ (kinds : List Dimension) (bytes : List ℕ) where

@@ -157,14 +157,14 @@ pub fn f64_bits(x: f64) -> u64
 
 // Whether a pattern is a NaN's: the magnitude is above the infinity's. Doubled, the pattern has lost its sign, and one
 // addition and one comparison tell it.
-fn f32_nan_pattern(p: u32) -> bool
+pub fn f32_nan_pattern(p: u32) -> bool
     ensures { λ r. ⌜ r ≡ nanBits binary32 p ⌝ }
 {
     2 * (p % 0x8000_0000) > 0xff00_0000
 }
 
 // The same of 64 bits.
-fn f64_nan_pattern(p: u64) -> bool
+pub fn f64_nan_pattern(p: u64) -> bool
     ensures { λ r. ⌜ r ≡ nanBits binary64 p ⌝ }
 {
     2 * (p % 0x8000_0000_0000_0000) > 0xffe0_0000_0000_0000

@@ -5,4 +5,5 @@ pub mod Never
 mod Rows
 mod Root
 mod Window
+mod Sides
 pub mod OneBox

@@ -5,6 +5,7 @@ use description::Description;
 use description::Dimension;
 use description::Kind;
 use ranges::Range;
+use rtree::Shaped;
 ghost use mathlib.Core.Path.{_≡_};
 ghost use mathlib.Core.Bool.{false};
 ghost use Prim.Native.Nat.{_+_, _%_, _^_, _≤_, _<_};
@@ -18,8 +19,9 @@ ghost use Rattle.rtree.specs.Opening.{Accepted};
 ghost use Rattle.query.specs.Query.{askedRefusal, refusedAnswer, queryAnswer, queryBuffer, flatCountOf};
 ghost use Rattle.query.specs.Query.{Lists, Bounded};
 ghost use Rattle.query.specs.BoxTest.{boxTestRefusal, boxTestAnswer, ReadUp};
-ghost use Rattle.query.specs.Code.Walking.{ground, state, meetsCarried, readCarried, Carries};
-ghost use Rattle.query.specs.Code.Walking.{visited, childrenWalked, Box, ChildRow};
+ghost use mathlib.Core.List.{_∷_};
+ghost use Rattle.query.specs.Code.Walking.{planned, shapedGround, state, meetsCarried, readCarried, Carries};
+ghost use Rattle.query.specs.Code.Walking.{visited, childrenWalked, rootWalked, Box, ChildRow, RootRow};
 
 pub struct Answer {
     pub number: u64,
@@ -76,27 +78,9 @@ pub fn query(
     if shaped.number != 0 {
         return refused(shaped.number, shaped.place);
     }
-    let box_bytes = description.box_bytes();
-    let shape = shaped.shape;
-    let table = shape.table;
-    let dimensions = description::sides_of(description.dimensions);
-    let kinds = description.kinds;
     let sides = window.sides;
     let ends = boxes::window_ends(sides, description.dimensions);
-    // The root's row is the row of a box above it.
-    let walk = walk_row(
-        body,
-        &table,
-        shaped.fanout,
-        box_bytes,
-        dimensions,
-        kinds,
-        &ends,
-        shape.levels - 1,
-        0,
-        out,
-        Walk { found: 0, count: 0 },
-    );
+    let walk = walk_tree(description, shaped, body, &ends, out);
     Answer {
         number: 0,
         place: 0,
@@ -167,30 +151,80 @@ fn check_asked(description: Description, tiles: u64, window: Window) -> Refusal
         .or(boxes::check_window(description, window))
 }
 
+// The walk of a tree that passed the check of its shape, by a window that passed its own.
+fn walk_tree(
+    description: Description,
+    shaped: Shaped,
+    body: &[u8],
+    ends: &[u64; 8],
+    out: &mut [u32],
+) -> Walk
+    requires { ⌜ RootRow (shapedGround description shaped (now body) (now ends)) (shaped .shape .levels) (now out) ⌝ }
+    ensures { λ r. ⌜ state r (now (out .exit)) ≡ rootWalked (shapedGround description shaped (now (body .entry)) (now
+        (ends .entry))) (shaped .shape .levels) (now (out .entry)) ⌝ }
+{
+    let dimensions = description::sides_of(description.dimensions);
+    let box_bytes = description.box_bytes();
+    let shape = shaped.shape;
+    let table = shape.table;
+    let plan = plan_of(dimensions, box_bytes, shaped.fanout, table);
+    let kinds = description.kinds;
+    let none = Walk { found: 0, count: 0 };
+    // The root's row is the row of a box above it.
+    walk_row(body, ends, kinds, &plan, shape.levels - 1, 0, out, none)
+}
+
+// The numbers that a walk goes by are in one array, its plan, so that each row hands on one reference to them: three at
+// these places, and from the fourth place on the table of the levels.
+const DIMENSIONS: usize = 0;
+
+const BOX_BYTES: usize = 1;
+
+const FANOUT: usize = 2;
+
+const TABLE: usize = 3;
+
+fn plan_of(dimensions: usize, box_bytes: usize, fanout: usize, table: [usize; 50]) -> [usize; 53]
+    ensures { λ r. ⌜ r ≡ dimensions ∷ «box_bytes» ∷ fanout ∷ table ⌝ }
+{
+    let mut plan = [0; 53];
+    plan[DIMENSIONS] = dimensions;
+    plan[BOX_BYTES] = box_bytes;
+    plan[FANOUT] = fanout;
+    let mut i: usize = TABLE;
+    while i < 53 {
+        plan[i] = table[i - TABLE];
+        i += 1;
+    }
+    plan
+}
+
 // Looking at one box and walking a row of boxes call each other. A walk starts with the row of the root.
 
 fn visit(
     body: &[u8],
-    table: &[usize; 50],
-    fanout: usize,
-    box_bytes: usize,
-    dimensions: usize,
-    kinds: [Dimension; 4],
     ends: &[u64; 8],
+    kinds: [Dimension; 4],
+    plan: &[usize; 53],
     distance: usize,
     k: usize,
     place: usize,
     out: &mut [u32],
     walk: Walk,
 ) -> Walk
-    requires { ⌜ Box (ground (now body) (now table) fanout «box_bytes» dimensions kinds (now ends)) distance k
-        place (state walk (now out)) ⌝ }
-    ensures { λ r. ⌜ state r (now (out .exit)) ≡ visited (ground (now (body .entry)) (now (table .entry)) fanout
-        «box_bytes» dimensions kinds (now (ends .entry))) distance k (state walk (now (out .entry))) ⌝ }
+    requires { ⌜ Box (planned (now body) (now plan) kinds (now ends)) distance k place (state walk (now out)) ⌝ }
+    ensures { λ r. ⌜ state r (now (out .exit)) ≡ visited (planned (now (body .entry)) (now (plan .entry)) kinds (now
+        (ends .entry))) distance k (state walk (now (out .entry))) ⌝ }
 {
+    let box_bytes = plan[BOX_BYTES];
+    let dimensions = plan[DIMENSIONS];
     let seen = look_at(body, place, box_bytes, dimensions, kinds, ends, walk.count);
     let count = seen.count;
     let found = walk.found;
+    let looked = Walk {
+        found: found,
+        count: count,
+    };
     if seen.tested.meets {
         if distance == 0 {
             answers::keep(out, found, k as u32);
@@ -200,72 +234,37 @@ fn visit(
                 count: count,
             }
         } else {
-            let next = Walk {
-                found: found,
-                count: count,
-            };
-            walk_row(
-                body,
-                table,
-                fanout,
-                box_bytes,
-                dimensions,
-                kinds,
-                ends,
-                distance - 1,
-                k,
-                out,
-                next,
-            )
+            walk_row(body, ends, kinds, plan, distance - 1, k, out, looked)
         }
     } else {
-        Walk {
-            found: found,
-            count: count,
-        }
+        looked
     }
 }
 
 // The children of box `parent` of the level above the one at this distance.
 fn walk_row(
     body: &[u8],
-    table: &[usize; 50],
-    fanout: usize,
-    box_bytes: usize,
-    dimensions: usize,
-    kinds: [Dimension; 4],
     ends: &[u64; 8],
+    kinds: [Dimension; 4],
+    plan: &[usize; 53],
     distance: usize,
     parent: usize,
     out: &mut [u32],
     walk: Walk,
 ) -> Walk
-    requires { ⌜ ChildRow (ground (now body) (now table) fanout «box_bytes» dimensions kinds (now ends)) distance
-        parent (state walk (now out)) ⌝ }
-    ensures { λ r. ⌜ state r (now (out .exit)) ≡ childrenWalked (ground (now (body .entry)) (now (table .entry)) fanout
-        «box_bytes» dimensions kinds (now (ends .entry))) distance parent (state walk (now (out .entry)))
-        ⌝ }
+    requires { ⌜ ChildRow (planned (now body) (now plan) kinds (now ends)) distance parent (state walk (now out)) ⌝ }
+    ensures { λ r. ⌜ state r (now (out .exit)) ≡ childrenWalked (planned (now (body .entry)) (now (plan .entry)) kinds
+        (now (ends .entry))) distance parent (state walk (now (out .entry))) ⌝ }
 {
+    let fanout = plan[FANOUT];
+    let box_bytes = plan[BOX_BYTES];
     let first = parent * fanout;
-    let last = first + tree::row_length(fanout, table[2 * distance + 1], first);
-    let mut place = table[2 * distance] + first * box_bytes;
+    let last = first + tree::row_length(fanout, plan[TABLE + 2 * distance + 1], first);
+    let mut place = plan[TABLE + 2 * distance] + first * box_bytes;
     let mut sofar = walk;
     let mut k = first;
     while k < last {
-        sofar = visit(
-            body,
-            table,
-            fanout,
-            box_bytes,
-            dimensions,
-            kinds,
-            ends,
-            distance,
-            k,
-            place,
-            out,
-            sofar,
-        );
+        sofar = visit(body, ends, kinds, plan, distance, k, place, out, sofar);
         place += box_bytes;
         k += 1;
     }
@@ -326,33 +325,65 @@ fn test_box(bytes: &[u8], dimensions: usize, kinds: [Dimension; 4], ends: &[u64;
     tested
 }
 
-// Reads and tests dimension i of a box, and gives the number of dimensions read back one higher: the range, read in the
-// window's kind, and the window's are compared by a match.
+// Reads and tests dimension i of a box, and gives the number of dimensions read back one higher. A side with NaN misses;
+// any other, read in the window's kind, and the window's are compared by a match.
 fn test_side(bytes: &[u8], at: usize, kind: Kind, ends: &[u64; 8], i: usize, read: usize) -> Tested
     requires { ⌜ (at + rangeBytes kind ≤ length (now bytes)) × (i < 4) × (read + 1 < 2 ^ 64) ⌝ }
     requires { ⌜ hasNan (carriedSide kind (now ends) i) ≡ false ⌝ }
     ensures { λ r. ⌜ (r .meets ≡ meets (endsAt kind (now (bytes .entry)) at) (carriedSide kind (now (ends .entry)) i))
         × (r .read ≡ read + 1) ⌝ }
 {
-    let range = read_side(bytes, at, kind);
+    let counted = read + 1;
+    if has_nan(bytes, at, kind) {
+        return Tested {
+            meets: false,
+            read: counted,
+        };
+    }
+    let range = range_in(bytes, at, kind);
     let asked = window_range(kind, ends[2 * i], ends[2 * i + 1]);
     Tested {
         meets: range.meets(asked),
-        read: read + 1,
+        read: counted,
     }
 }
 
-// The range of a kind at a place where it is wholly there. It is read from a part of known length, so that the test of
-// that length is none in the compiled code.
-fn read_side(bytes: &[u8], at: usize, kind: Kind) -> Range
+// Whether the range of a kind at a place where it is wholly there has a NaN, told from the patterns of its ends.
+fn has_nan(bytes: &[u8], at: usize, kind: Kind) -> bool
     requires { ⌜ at + rangeBytes kind ≤ length (now bytes) ⌝ }
+    ensures { λ r. ⌜ r ≡ hasNan (endsAt kind (now (bytes .entry)) at) ⌝ }
+{
+    match kind {
+        Kind::Float32 => {
+            let ends = order::pair32_at(&bytes[at..at + 8], 0);
+            order::f32_nan_pattern(ends.low) || order::f32_nan_pattern(ends.high)
+        }
+        Kind::Float64 => {
+            let ends = order::pair64_at(&bytes[at..at + 16], 0);
+            order::f64_nan_pattern(ends.low) || order::f64_nan_pattern(ends.high)
+        }
+        Kind::Int32 | Kind::Int64 | Kind::Uint64 => false,
+    }
+}
+
+// That range, which has no NaN, so that its floats become values with no test. It is read from a part of known length,
+// so that the test of that length is none in the compiled code.
+fn range_in(bytes: &[u8], at: usize, kind: Kind) -> Range
+    requires { ⌜ at + rangeBytes kind ≤ length (now bytes) ⌝ }
+    requires { ⌜ hasNan (endsAt kind (now bytes) at) ≡ false ⌝ }
     ensures { λ r. ⌜ r ≡ rangeAt kind (now (bytes .entry)) at ⌝ }
 {
     match kind {
         Kind::Int32 => Range::read(&bytes[at..at + 8], 0, Kind::Int32),
         Kind::Int64 => Range::read(&bytes[at..at + 16], 0, Kind::Int64),
-        Kind::Float32 => Range::read(&bytes[at..at + 8], 0, Kind::Float32),
-        Kind::Float64 => Range::read(&bytes[at..at + 16], 0, Kind::Float64),
+        Kind::Float32 => {
+            let ends = order::pair32_at(&bytes[at..at + 8], 0);
+            Range::F32(f32::from_bits(ends.low), f32::from_bits(ends.high))
+        }
+        Kind::Float64 => {
+            let ends = order::pair64_at(&bytes[at..at + 16], 0);
+            Range::F64(f64::from_bits(ends.low), f64::from_bits(ends.high))
+        }
         Kind::Uint64 => Range::read(&bytes[at..at + 16], 0, Kind::Uint64),
     }
 }

@@ -1,7 +1,7 @@
 -- What becomes of a range that was made of patterns, where its ends' patterns are asked for again? A pattern that is no NaN's comes back as it
 -- was, and a NaN's comes back as a NaN's, so the range compares as its patterns do: comparing what was read is comparing the bytes.
 -- Assumes nothing.
-use mathlib.Core.Path.{_≡_, refl, ap, _∙_}
+use mathlib.Core.Path.{_≡_, refl, sym, ap, _∙_}
 use mathlib.Core.Logic.{_⊎_, inl, inr}
 use mathlib.Core.Bool.{Bool, true, false}
 use mathlib.Core.List.{List, [], _∷_}
@@ -175,6 +175,9 @@ module _ (k : Kind) (s : List ℕ) (at w : ℕ) (size : w ≡ rangeBytes k) (fit
 module _ (known : Kind) {k : Kind} (s : List ℕ) (at : ℕ) (same : k ≡ known) (there : at + rangeBytes k ≤ length s) where
   pub known-fits : at + rangeBytes known ≤ length s
   known-fits = rw same at there
+
+  pub known-ends : (w : ℕ) → w ≡ rangeBytes known → endsAt known (take w (drop at s)) 0 ≡ endsAt k s at
+  known-ends w size = part-ends known s at w size (omega (arith, known-fits)) ∙ ap (λ (x : Kind). endsAt x s at) (sym same)
 
   pub known-part : {r : Range} (w : ℕ) → w ≡ rangeBytes known → r ≡ rangeAt known (take w (drop at s)) 0 → r ≡ rangeAt k s at
   known-part w size read = when-known (λ x. rangeAt x s at) same (read ∙ part-range known s at w size (omega (arith, known-fits)))

@@ -7,7 +7,7 @@ use borrow.Author.Needs.{needs}
 use Rattle.answers.specs.Refusals.{refusal}
 use Rattle.answers.specs.declared.Refusal.{Refusal}
 use Rattle.query.specs.Query.{askedRefusal, queryRefusal}
-use Rattle.query.specs.Code.Walking.{Ground, ground}
+use Rattle.query.specs.Code.Walking.{shapedGround}
 use Rattle.query.proofs.Window.{Fit}
 use Rattle.query.proofs.Promised.{Cleared, groundOf, passed-all, asked-refusal, shape-refusal, some-level, root-distance, walk-row-asked, walk-comes-to, refusing, answering}
 use Rattle.query.proofs.query.Statement.{statement}
@@ -40,21 +40,16 @@ all-clear c =
 
 -- what the walk goes by is the definition's
 same-ground : (c : tie.After-window-ends)
-    → (let d = c .before .before .before in
-    let b = d .before .before .before in
-    let k = b .before .before .before in
+    → (let k = c .before .before .before .before in
     let x = k .before .before .before .before .before .before .args in
-    ground (x .body .now) (k .check-shape .result .shape .table) (k .check-shape .result .fanout) (b .box-bytes .result) (d .sides-of .result)
-    (x .description .kinds) (c .window-ends .result)
+    shapedGround (x .description) (k .check-shape .result) (x .body .now) (c .window-ends .result)
     ≡ groundOf (x .description) (x .tiles) (x .body .now) (x .window))
 same-ground c =
-    let d = c .before .before .before in
-    let b = d .before .before .before in
-    let k = b .before .before .before in
-    rw (k .check-shape .ensures .shape, k .check-shape .ensures .fanout, b .box-bytes .ensures, d .sides-of .ensures, c .window-ends .ensures .0)
+    let k = c .before .before .before .before in
+    rw (k .check-shape .ensures .shape, k .check-shape .ensures .fanout, c .window-ends .ensures .0)
 
 fit : (c : tie.After-window-ends)
-    → (let e = c .before .before .before .before .before .before .before in
+    → (let e = c .before .before in
     let x = e .before .before .before .before .before .before .before .before .args in
     Fit (x .description) (x .window) (all-clear e .windowed))
 fit c = rw (c .window-ends .ensures .0) at (c .window-ends .ensures .1)
@@ -74,27 +69,29 @@ returns-2 c =
     refusing (x .description) (x .tiles) (x .body .now) (x .window) (told k) (c .before .if2 .taken) (c .refused2 .ensures) (x .out .now)
 
 -- the root's row
-walk-row-requires : tie.Need-walk-row-requires
-walk-row-requires c κs =
-    let w = c .before .before .before .before in
-    let e = w .before .before .before .before .before .before .before in
+walk-tree-requires : tie.Need-walk-tree-requires
+walk-tree-requires c κs =
+    let w = c .before .before in
+    let e = w .before .before in
     let k = e .before .before in
     let s = k .before .before .before .before .before .before in
     let x = s .args in
-    let p = all-clear e in
-    walk-row-asked (x .description) (x .tiles) (x .body .now) (x .window) p (fit w) (same-ground w)
-    (root-distance (x .description) (x .tiles) (x .body .now) (x .window) p (k .check-shape .ensures)) (x .out .now) (s .good .1 .1 .0 .0)
+    let p = all-clear e in (
+      some-level (x .description) (x .tiles) (x .body .now) (x .window) p (k .check-shape .ensures),
+      walk-row-asked (x .description) (x .tiles) (x .body .now) (x .window) p (fit w) (same-ground w)
+          (root-distance (x .description) (x .tiles) (x .body .now) (x .window) p (k .check-shape .ensures)) (x .out .now) (s .good .1 .1 .0 .0),
+    )
 
 returns-3 : tie.Need-returns-3
 returns-3 c =
     let r = c .before .before in
-    let w = r .before .before .before .before .before in
-    let e = w .before .before .before .before .before .before .before in
+    let w = r .before .before .before in
+    let e = w .before .before in
     let k = e .before .before in
     let x = k .before .before .before .before .before .before .args in
     let p = all-clear e in
     answering (x .description) (x .tiles) (x .body .now) (x .window) (clear e) (x .out .now)
-    (r .walk-row .ensures
+    (r .walk-tree .ensures
     ∙ walk-comes-to (x .description) (x .tiles) (x .body .now) (x .window) p (fit w) (same-ground w)
     (root-distance (x .description) (x .tiles) (x .body .now) (x .window) p (k .check-shape .ensures)) (x .out .now))
 
@@ -109,14 +106,6 @@ query-spec =
     (λ c κs. search needs)
     returns-2
     (λ c κs. search needs)
-    (λ c κs. search needs)
-    (λ c κs. search needs)
-    (λ c.
-    let w = c .before .before .before in
-    let e = w .before .before .before .before .before .before .before in
-    let k = e .before .before in
-    let x = k .before .before .before .before .before .before .args in
-    some-level (x .description) (x .tiles) (x .body .now) (x .window) (all-clear e) (k .check-shape .ensures))
-    walk-row-requires
+    walk-tree-requires
     (λ c. search needs)
     returns-3)

@@ -1,18 +1,20 @@
 -- What the walk's code asks of its arguments and hands through. Nothing here is promised to a user of the library.
 -- Assumes nothing.
-use Prim.Native.Nat.{ℕ, _+_, _*_, _^_, _≤_, _<_}
+use Prim.Native.Nat.{ℕ, _+_, _-_, _*_, _^_, _≤_, _<_}
 use mathlib.Core.Path.{_≡_}
 use mathlib.Core.Bool.{Bool, false}
 use mathlib.Core.List.{List}
 use lib.ListN.{length, getD, take, drop}
+use Rattle.description.specs.declared.Description.{Description}
 use Rattle.description.specs.declared.Dimension.{Dimension}
 use Rattle.description.specs.Limits.{Sizes}
-use Rattle.description.specs.Description.{kindAt, sideStart}
+use Rattle.description.specs.Description.{kindAt, sideStart, sidesOf, boxBytes}
 use Rattle.ranges.specs.Ranges.{Ends, hasNan, meets}
 use Rattle.boxes.specs.Boxes.{all, readTo, sideAt}
 use Rattle.boxes.specs.Code.Carried.{carriedSide}
 use Rattle.tree.specs.Shape.{boxes, children, height, levelStart, bodyBytes, shapeOf}
 use Rattle.tree.specs.Code.Run.{State, look, run}
+use Rattle.rtree.specs.declared.Shaped.{Shaped}
 use Rattle.query.specs.declared.Walk.{Walk}
 
 -- What does not change in a walk: the body and the table of its levels, the fanout, the bytes of a box; the window's
@@ -28,6 +30,14 @@ pub record Ground : Type 0 where
 
 abbrev pub ground : List ℕ → List ℕ → ℕ → ℕ → ℕ → List Dimension → List ℕ → Ground
 ground body table f b m kinds ends = record { body = body; table = table; f = f; b = b; m = m; kinds = kinds; ends = ends }
+
+-- as the code carries it: the plan has the number of dimensions, the bytes of a box and the fanout, and then the table
+abbrev pub planned : List ℕ → List ℕ → List Dimension → List ℕ → Ground
+planned body plan kinds ends = ground body (drop 3 plan) (getD plan 2 0) (getD plan 1 0) (getD plan 0 0) kinds ends
+
+-- and as it is known once the shape is checked
+abbrev pub shapedGround : Description → Shaped → List ℕ → List ℕ → Ground
+shapedGround d r body ends = ground body (r .shape .table) (r .fanout) (boxBytes d) (sidesOf (d .dimensions)) (d .kinds) ends
 
 -- the window's side of dimension i, as it is carried
 abbrev pub askedSide : List Dimension → List ℕ → ℕ → Ends
@@ -99,3 +109,10 @@ childrenWalked g j parent s = walked g j (parent * g .f) (children (g .f) (tiles
 
 abbrev pub ChildRow : Ground → ℕ → ℕ → State → Type 0
 ChildRow g j parent s = Row g j (parent * g .f) (children (g .f) (tilesIn g) j parent) s
+
+-- the root's row in a tree of so many levels, with nothing counted and nothing found
+abbrev pub rootWalked : Ground → ℕ → List ℕ → State
+rootWalked g levels out = childrenWalked g (levels - 1) 0 (0, 0, out)
+
+abbrev pub RootRow : Ground → ℕ → List ℕ → Type 0
+RootRow g levels out = (1 ≤ levels) × ChildRow g (levels - 1) 0 (0, 0, out)
