@@ -7,6 +7,7 @@ pub mod Rows
 pub mod Front
 pub mod Boxes
 pub mod Held
+pub mod Runs
 pub mod Ends
 pub mod Starts
 pub mod Prefix

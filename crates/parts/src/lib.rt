@@ -5,16 +5,13 @@ use description::Description;
 use rtree::Opened;
 ghost use mathlib.Core.Path.{_≡_};
 ghost use mathlib.Core.Bool.{true, _&&_, cond};
-ghost use mathlib.Core.List.{List};
-ghost use Prim.Native.Nat.{ℕ, _+_, _-_, _*_, _^_, _≤_, _<_, min};
+ghost use Prim.Native.Nat.{_+_, _-_, _^_, _≤_, _<_, min};
 ghost use lib.Dec.{eqb};
 ghost use lib.ListN.{length, take, drop};
 ghost use lib.Seq.{paste};
-ghost use Rattle.answers.specs.Refusals.{refusal, outsideDomain};
+ghost use Rattle.answers.specs.Refusals.{refusal};
 ghost use Rattle.answers.specs.Checks.{otherwise, each};
-ghost use Rattle.description.specs.Description.{sidesOf, boxBytes};
-ghost use Rattle.description.specs.Limits.{mostTiles, mostFanout};
-ghost use Rattle.boxes.specs.Code.Row.{rowRefusal};
+ghost use Rattle.description.specs.Description.{boxBytes};
 ghost use Rattle.tree.specs.Shape.{mostBoxBytes, shapeOf};
 ghost use Rattle.rtree.specs.Opening.{refusedIn};
 ghost use Rattle.parts.specs.Parts.{frontShown, whichOf, partsAnswer};
@@ -22,11 +19,15 @@ ghost use Rattle.parts.specs.Took.{Starts, Carries, Answers};
 ghost use Rattle.parts.specs.Code.Rest.{placed, childCheck, runCheck};
 ghost use Rattle.parts.specs.Code.Cursor.{begun, withCursor};
 ghost use Rattle.parts.specs.Code.Cursor.{refused, keeping, fronted, counted, moved, lowered, passed};
-ghost use Rattle.parts.specs.Code.State.{itemBytes, mostWork, InRange, RunOf, Gathered, innerIn, wholeIn};
-ghost use Rattle.parts.specs.Code.State.{SameRoom, Stored, Takes, TakesSome, TakesItem, TakesNumber, Ends};
+ghost use Rattle.parts.specs.Code.State.{itemBytes, InRange, RunOf, Gathered, innerIn, wholeIn};
+ghost use Rattle.parts.specs.Code.State.{SameRoom, Stored, Takes, TakesSome, TakesNumber, TakesRun, Ends};
 
 // More than any work buffer needs.
 const MOST_WORK: usize = 1_099_511_627_776;
+
+// The boxes of an inner level that are checked before they are copied: few, so that the copying of some goes on while
+// the next are checked.
+const RUN: usize = 64;
 
 // What has come, in numbers.
 pub struct Cursor {
@@ -584,7 +585,7 @@ fn take_count(parts: Parts, box_bytes: usize, cursor: Cursor, room: usize, bytes
     counted(cursor, count, cursor.done + 8)
 }
 
-// So many boxes of a level: each against its parent, and then into the work buffer unless they are leaves.
+// So many boxes of a level; of an inner one, run by run.
 fn take_boxes(
     parts: Parts,
     box_bytes: usize,
@@ -595,9 +596,33 @@ fn take_boxes(
 ) -> Cursor
     requires { ⌜ RunOf parts «box_bytes» cursor (now bytes) boxes ⌝ }
     requires { ⌜ 0 < boxes ⌝ }
-    ensures { λ r. ⌜ (length (now (work .exit)) ≡ length (now (work .entry))) × ((held : List ℕ)
-        → TakesItem (withCursor parts held cursor) (now (work .entry)) (now (bytes .entry)) (withCursor parts held r)
-        (now (work .exit))) ⌝ }
+    ensures { λ r. ⌜ TakesRun parts cursor (now (work .entry)) (now (bytes .entry)) boxes r (now (work .exit)) ⌝ }
+{
+    let most = if cursor.level == 0 { boxes } else { RUN };
+    let mut c = cursor;
+    let mut i: usize = 0;
+    while i < boxes {
+        let more = least(most, boxes - i);
+        let from = i * box_bytes;
+        let to = from + more * box_bytes;
+        c = take_run(parts, box_bytes, c, work, &bytes[from..to], more);
+        i += more;
+    }
+    c
+}
+
+// A run of them: each against its parent, and then into the work buffer unless they are leaves.
+fn take_run(
+    parts: Parts,
+    box_bytes: usize,
+    cursor: Cursor,
+    work: &mut [u8],
+    bytes: &[u8],
+    boxes: usize,
+) -> Cursor
+    requires { ⌜ RunOf parts «box_bytes» cursor (now bytes) boxes ⌝ }
+    requires { ⌜ 0 < boxes ⌝ }
+    ensures { λ r. ⌜ TakesRun parts cursor (now (work .entry)) (now (bytes .entry)) boxes r (now (work .exit)) ⌝ }
 {
     let fault = check_boxes(parts, box_bytes, cursor, work, bytes, boxes);
     let index = cursor.index;
@@ -648,16 +673,7 @@ fn check_boxes(
     if cursor.fanout == 0 {
         return Refusal::none();
     }
-    let told = check_rows(
-        work,
-        bytes,
-        d,
-        box_bytes,
-        cursor.fanout,
-        cursor.parents,
-        cursor.index,
-        boxes,
-    );
+    let told = check_rows(parts, box_bytes, cursor, work, bytes, boxes);
     placed(told, cursor.done)
 }
 
@@ -672,50 +688,41 @@ fn placed(told: Refusal, start: u64) -> Refusal
     Refusal::new(told.number, start + told.place)
 }
 
-// So many boxes from box `index` of a level on, row by row: each row, or what is there of it, inside its parent, of
-// those that stand in the work buffer from `parents` on.
+// So many boxes of a level, row by row: each row, or what is there of it, inside its parent, which stands at `place` of
+// the work buffer.
 fn check_rows(
+    parts: Parts,
+    box_bytes: usize,
+    cursor: Cursor,
     work: &[u8],
     bytes: &[u8],
-    description: Description,
-    box_bytes: usize,
-    fanout: usize,
-    parents: usize,
-    index: usize,
     boxes: usize,
 ) -> Refusal
-    requires { ⌜ «box_bytes» ≡ boxBytes description ⌝ }
-    requires { ⌜ 0 < «box_bytes» ⌝ }
-    requires { ⌜ «box_bytes» ≤ mostBoxBytes ⌝ }
-    requires { ⌜ length (now bytes) ≡ boxes * «box_bytes» ⌝ }
-    requires { ⌜ index + boxes ≤ mostTiles ⌝ }
-    requires { ⌜ 0 < fanout ⌝ }
-    requires { ⌜ fanout ≤ mostFanout ⌝ }
-    requires { ⌜ parents ≤ mostWork ⌝ }
-    ensures { λ r. ⌜ (r ≡ each (childCheck description fanout parents index (now (bytes .entry)) (now (work .entry))) 0
-        boxes) × (r .place ≤ length (now (bytes .entry))) ⌝ }
+    requires { ⌜ RunOf parts «box_bytes» cursor (now bytes) boxes ⌝ }
+    requires { ⌜ 0 < cursor .fanout ⌝ }
+    ensures { λ r. ⌜ (r ≡ each (childCheck (parts .description) (cursor .fanout) (cursor .parents) (cursor .index)
+        (now (bytes .entry)) (now (work .entry))) 0 boxes) × (r .place ≤ length (now (bytes .entry))) ⌝ }
 {
-    let kinds = description.kinds;
-    let mut parent = index / fanout;
+    let d = parts.description;
+    let kinds = d.kinds;
+    let fanout = cursor.fanout;
+    let parents = cursor.parents;
+    let index = cursor.index;
+    let parent = index / fanout;
+    let mut place = parents + parent * box_bytes;
     let mut row = fanout - (index - parent * fanout);
     let mut i: usize = 0;
     while i < boxes {
         let more = least(row, boxes - i);
         let from = i * box_bytes;
-        let to = from + more * box_bytes;
-        let outer = part(work, parents + parent * box_bytes, box_bytes);
-        let told = boxes::check_row(
-            &bytes[from..to],
-            kinds,
-            description.dimensions,
-            outer,
-            Refusal::OUTSIDE_PARENT,
-        );
+        let here = &bytes[from..from + more * box_bytes];
+        let outer = part(work, place, box_bytes);
+        let told = boxes::check_row(here, kinds, d.dimensions, outer, Refusal::OUTSIDE_PARENT);
         if told.number != 0 {
             return Refusal::new(told.number, from as u64 + told.place);
         }
         i += more;
-        parent += 1;
+        place += box_bytes;
         row = fanout;
     }
     Refusal::none()

@@ -17,12 +17,6 @@ use Rattle.parts.proofs.check_boxes.Tie as tie
 returns : tie.Need-returns
 returns c = λ _. c .new .ensures ∙ sym (halt _ _ (c .before .if1 .taken))
 
--- a box has bytes
-some-bytes : (c : tie.Start) → 0 < c .args .box-bytes
-some-bytes c =
-    let counted = c .pre .counted in
-    omega (arith, rw (ne-eqb (c .args .cursor .counted) 0 (λ e. omega (arith, counted))) at (c .pre .range .part))
-
 -- the domain has room for a box
 domain-length : (c : tie.Start) → length (c .args .parts .domain) ≡ 64
 domain-length c = sym (length-map (c .args .parts .domain) (λ v. v)) ∙ c .good .0 .1 .1 .1 .1 .0 .1 .0 .1
@@ -49,22 +43,7 @@ returns-3 : tie.Need-returns-3
 returns-3 c = λ some. absurd (omega (arith, c .before .if3 .taken))
 
 check-rows-requires : tie.Need-check-rows-requires
-check-rows-requires c κs =
-    let s = c .before .before .before .before .before .before .before .before .before in
-    let own = s .pre .width in
-    let r = s .pre .range in (
-      own,
-      (
-        some-bytes s,
-        (
-          rw own (box-bytes-most (s .args .parts .description)),
-          (
-            s .pre .size,
-            (omega (arith, s .pre .few, r .most, r .within), (omega (arith, c .if3 .left), (r .fanout, r .parents))),
-          ),
-        ),
-      ),
-    )
+check-rows-requires c κs = (c .before .before .before .before .before .before .before .before .before .pre, omega (arith, c .if3 .left))
 
 placed-requires-2 : tie.Need-placed-requires-2
 placed-requires-2 c κs =

@@ -181,7 +181,7 @@ returns-4 c =
     let own = box-item (c .before .before .before .before .before .before .before .before .before) in
     let s = c .before .before .before .before .before .before .before .before .before .before .before .before .before .before .before .before .before .before .before .before .before .before .before .before in
     let zero = s .pre .1 .1 .1 .0 in (
-      record { to-hold = a .gather .ensures .room; to-work = b .take-boxes .ensures .0 },
+      record { to-hold = a .gather .ensures .room; to-work = b .take-boxes .ensures .room },
       λ d F footer stated body p h r fits.
           let g = h .going zero in
           let t = stands g r (s .pre .1 .1 .0) fits (rw (g .description) at (f .0)) (f .2) (a .gather .ensures) (all (c .before .before .before .before .before .before .before .before .before .before .before .before .before .before)) (w .ensures) in
@@ -193,7 +193,7 @@ returns-4 c =
             few = omega (arith, on, t .upto m (o .0));
             holds =
                 rw place
-                (rw (o .3) at (b .take-boxes .ensures .1 (a .gather .last .0) d F footer stated body (t .start)
+                (rw (o .3) at (b .take-boxes .ensures .took (a .gather .last .0) d F footer stated body (t .start)
                 (rw k zero) (rw k (t .going)) (rw k refl) (read-first body (t .start) (w .result .now) (t .reads) m (o .0))
                 (omega (arith, o, t .inside))));
           },
@@ -224,5 +224,5 @@ step-spec =
     (λ c. sym (taken (c .before .before) .3))
     take-boxes-requires
     (λ c. c .before .before .before .before .before .before .before .before .before .before .before .before .before .before .before .before .before .before .gather .ensures .room)
-    (λ c. c .before .before .take-boxes .ensures .0)
+    (λ c. c .before .before .take-boxes .ensures .room)
     returns-4)

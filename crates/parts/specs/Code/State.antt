@@ -23,7 +23,7 @@ use Rattle.rtree.specs.Opening.{boxesRefusal, refusedIn}
 use Rattle.parts.specs.declared.Cursor.{Cursor}
 use Rattle.parts.specs.declared.Parts.{Parts}
 use Rattle.parts.specs.Parts.{innerBytes, partsAnswer}
-use Rattle.parts.specs.Code.Cursor.{withCursor}
+use Rattle.parts.specs.Code.Cursor.{withCursor, moved}
 use Rattle.parts.specs.Code.Rest.{boxesFrom}
 
 -- the bytes of what comes next
@@ -185,6 +185,13 @@ TakesItem s work bytes r after =
 abbrev pub TakesNumber : Parts → ℕ → Cursor → List ℕ → Cursor → Type 0
 TakesNumber s room c bytes r =
     (held work : List ℕ) → length work ≡ room → TakesItem (withCursor s held c) work bytes (withCursor s held r) work
+
+-- Some boxes of a level, whatever is held of what comes next; where the level has more of them, the next is next.
+pub record TakesRun (s : Parts) (c : Cursor) (work bytes : List ℕ) (m : ℕ) (r : Cursor) (after : List ℕ) : Type 0 where
+  pub room : length after ≡ length work
+  pub next : c .index + m < c .count
+      → r ≡ moved c (c .index + m) (c .done + length bytes) (refusals.refusal (r .«box_number») (r .«box_place»))
+  pub took : (held : List ℕ) → TakesItem (withCursor s held c) work bytes (withCursor s held r) after
 
 -- Held bytes and work buffer keep their lengths.
 pub record SameRoom (held work after-held after : List ℕ) : Type 0 where
