@@ -189,6 +189,14 @@ class Promises(unittest.TestCase):
         stored = {f"{path.parts[-3]}/{path.stem}" for path in ROOT.glob("crates/*/must-fail/*.edit")}
         self.none(faults + [f"no row cites `{edit}`" for edit in stored - cited])
 
+    def test_refused(self):
+        """Every public function stands in a row that has a stored edit."""
+        covered = set()
+        for crates, _, cells in rows():
+            if edit_faults(cells[RULED_OUT])[1]:
+                covered |= contract_faults(crates, cells.get(CONTRACT, ""), "proofs")[1]
+        self.none(f"`{name}` of {c} has no edit" for c in CRATES for name in public(c) if (c, name) not in covered)
+
     def test_crates(self):
         """Every crate has its section, and a section is about crates."""
         self.assertEqual(sorted(CRATES), sorted({crate for crates, _, _ in rows() for crate in crates}))

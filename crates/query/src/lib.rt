@@ -325,8 +325,8 @@ fn test_box(bytes: &[u8], dimensions: usize, kinds: [Dimension; 4], ends: &[u64;
     tested
 }
 
-// Reads and tests dimension i of a box, and gives the number of dimensions read back one higher. A side with NaN misses;
-// any other, read in the window's kind, and the window's are compared by a match.
+// Reads and tests dimension i of a box, and gives the number of dimensions read back one higher. A side with NaN is a
+// miss; any other, read in the window's kind, and the window's are compared by a match.
 fn test_side(bytes: &[u8], at: usize, kind: Kind, ends: &[u64; 8], i: usize, read: usize) -> Tested
     requires { ⌜ (at + rangeBytes kind ≤ length (now bytes)) × (i < 4) × (read + 1 < 2 ^ 64) ⌝ }
     requires { ⌜ hasNan (carriedSide kind (now ends) i) ≡ false ⌝ }
