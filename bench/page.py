@@ -11,6 +11,9 @@ import sys
 import textwrap
 
 PEERS = {"rust": "plain Rust", "boost": "Boost.Geometry", "libspatialindex": "libspatialindex"}
+# Other ways of our own that a way of ours stands beside.
+OWN = {"whole": "opening the whole", "single": "single calls"}
+BLOCKS = (4_096, 65_536, 1_048_576)
 COLOURS = {"ours": "#1d4ed8", "rust": "#d97706", "boost": "#047857", "libspatialindex": "#7c3aed"}
 KINDS = ["int32", "int64", "float32", "float64", "uint64", "mix"]
 FANOUTS = ["2", "10", "16", "1024"]
@@ -71,9 +74,15 @@ def groups(ratios, pictured=False):
     made += [("rust", "opening", of("rust", "open")), ("rust", "writing", of("rust", "write"))]
     made += [] if pictured else [("rust", f"opening, {kind}", of("rust", "open", kind)) for kind in KINDS]
     made += [("rust", "lists", [*of("rust", "offsets"), *of("rust", "var offsets"), *of("rust", "sizes")])]
+    made += [] if pictured else [("rust", "a tree in blocks", of("rust", "parts"))]
     for peer in ("boost", "libspatialindex"):
         made += [(peer, f"query, {size} windows", of(peer, "query", size)) for size in ("small", "large")]
         made += [] if pictured else by_fanout[peer]
+    if not pictured:
+        for block in BLOCKS:
+            made += [("whole", f"a tree in blocks of {block:,} bytes", of("whole", f"block={block}"))]
+            made += [("whole", f"in blocks of {block:,}, f = 2", of("whole", f"block={block}", "f=2"))]
+        made += [("single", "a batch of 32 windows, from C", of("single", "batch"))]
     return [group for group in made if group[2]]
 
 
@@ -181,7 +190,7 @@ def with_tiles(rows):
 def summary(ratios):
     rows = []
     for peer, name, values in groups(ratios):
-        rows.append([PEERS[peer], name, str(len(values)), short(mean(values)), short(min(values)), short(max(values))])
+        rows.append([{**PEERS, **OWN}[peer], name, str(len(values)), short(mean(values)), short(min(values)), short(max(values))])
     return table(["Beside", "Cases", "Number", "Geometric mean", "Lowest", "Highest"], rows)
 
 
@@ -269,7 +278,8 @@ def page(tables, ratios):
         prose("Checking tile offsets, checking var offsets, and checking and adding up tile sizes."),
         pair_table({"list": "List", "n": "n"}, tables["list"], "entry"),
         "## A tree in parts",
-        prose("A tree that arrives in blocks of a given size, beside opening the whole and beside plain Rust that takes the same blocks."),
+        prose("""A tree that arrives in blocks of a given size, beside opening the whole and beside plain Rust that takes the same blocks, in
+            five times the rounds."""),
         parts_table(tables["parts"]),
         "## A batch of 32 windows",
         prose("One call for 32 windows beside 32 single calls of the library, through C, in five times the rounds; f = 16. Times are a window's."),

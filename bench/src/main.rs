@@ -31,10 +31,11 @@ const MIX: [Kind; 4] = [Kind::Float64, Kind::Int32, Kind::Float32, Kind::Int64];
 /// So many small windows that their branches can't be learnt by heart.
 const SMALL: usize = 1024;
 const LARGE: usize = 32;
-/// So many windows to a batch, over trees of this fanout, in so many times the rounds, since the two times are nearly the same.
+/// So many windows to a batch, over trees of this fanout.
 const BATCH: usize = 32;
 const BATCH_FANOUT: usize = 16;
-const BATCH_ROUNDS: usize = 5;
+/// So many times the rounds for a batch beside single calls and for blocks beside the whole, since the two times are nearly the same.
+const CLOSE_ROUNDS: usize = 5;
 const LEAST: Duration = Duration::from_micros(600);
 const TRIALS: usize = 3;
 
@@ -416,7 +417,7 @@ impl Bench {
                     Box::new(|| _ = black_box(opened.ours())),
                     Box::new(|| _ = black_box(opened.plain_parts(block, &mut rust))),
                 ];
-                let taken = measure(runs.into(), self.rounds);
+                let taken = measure(runs.into(), CLOSE_ROUNDS * self.rounds);
                 let [parts, whole, plain] = [taken[0], taken[1], taken[2]];
                 let bytes = opened.bytes();
                 self.rows.push(format!("parts\t{kind}\t{d}\t{f}\t{n}\t{bytes}\t{block}\t{parts:.1}\t{whole:.1}\t{plain:.1}"));
@@ -449,7 +450,7 @@ impl Bench {
                 for (size, windows) in [("small", data::windows(d, 4.0 / n as f64, SMALL)), ("large", data::windows(d, 0.1, LARGE))] {
                     let asked = Asked::new(&kinds, &leaves, &windows, &[BATCH_FANOUT]);
                     let (found, looked) = asked.agree(&asked.all(), &[])[0];
-                    let taken: Vec<f64> = measure(asked.batch_runs().into(), BATCH_ROUNDS * self.rounds).iter().map(|t| t / windows.len() as f64).collect();
+                    let taken: Vec<f64> = measure(asked.batch_runs().into(), CLOSE_ROUNDS * self.rounds).iter().map(|t| t / windows.len() as f64).collect();
                     let row = format!("{kind}\t{d}\t{n}\t{size}\t{found:.1}\t{looked:.1}");
                     self.rows.push(format!("batch\t{row}\t{:.1}\t{:.1}", taken[0], taken[1]));
                     self.ratio(format!("single/batch/{kind}/D={d}/n={n}/{size}"), taken[0], taken[1]);
