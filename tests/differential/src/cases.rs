@@ -172,6 +172,11 @@ fn around(boxes: &[Box_]) -> Box_ {
 
 /// A fanout and a number of tiles: rows and levels that just end or just begin, and others.
 fn sizes(c: &mut Chance) -> (u64, u64) {
+    if c.one_in(100) {
+        // of the level above the leaves as many boxes as a tree in parts takes at once, twice as many, and one more
+        let f = c.of(&[2u64, 3]);
+        return (f, f * c.of(&[64u64, 65, 128, 129]) - c.below(f));
+    }
     let f = c.of(&[2u64, 2, 3, 4, 10, 1024]);
     let n = match c.below(12) {
         0 => 1,

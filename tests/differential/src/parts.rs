@@ -7,6 +7,9 @@ use crate::rules::{self, refusal, Description};
 use std::collections::BTreeMap;
 
 const STATE: usize = 40;
+/// Where the state has the stated length, and the bytes of all that came whole.
+const STATED: usize = 11;
+const DONE: usize = 20;
 
 extern "C" {
     fn tussockbell_parts_start(
@@ -137,7 +140,7 @@ fn forged(c: &mut Chance, p: &Parts, space: &mut Space) {
         state[0] = 0;
     }
     if c.one_in(2) {
-        (state[11], state[19]) = (u64::MAX - c.below(2), c.of(&[16, 24, 1 << 20, u64::MAX - 64]));
+        (state[STATED], state[DONE]) = (u64::MAX - c.below(2), c.of(&[16, 24, 1 << 20, u64::MAX - 64]));
     }
     space.again();
     let work = space.lend(p.work.len());
