@@ -6,4 +6,5 @@ mod Rows
 mod Root
 mod Window
 mod Sides
+mod Nans
 pub mod OneBox

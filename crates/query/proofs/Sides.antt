@@ -1,5 +1,4 @@
--- A stored side, read from the part that has it whole, in a kind that is known there: it has a NaN where that part has, and its ends are told one
--- after the other. An integer's range has none.
+-- A stored side, read from the part that has it whole, in a kind that is known there: it has a NaN where that part has. An integer's range has none.
 -- Assumes nothing.
 use Prim.Native.Nat.{ℕ, _+_, _≤_}
 use mathlib.Core.Path.{_≡_, refl, sym, ap, _∙_}
@@ -25,13 +24,8 @@ module _ (known : Kind) {k : Kind} (s : List ℕ) (at w : ℕ) (same : k ≡ kno
   pub part-numbers : hasNan (endsAt k s at) ≡ false → hasNan part ≡ false
   part-numbers h = part-nan ∙ h
 
-  pub first-nan : {t : Bool} → t ≡ isNan known (part .low) → t ≡ true → t ≡ hasNan (endsAt k s at)
-  unfolding hasNan endsAt
-  first-nan e h = let here : true ≡ hasNan part = rw (sym e ∙ h) in h ∙ here ∙ part-nan
-
-  pub second-nan : {t u : Bool} → t ≡ isNan known (part .low) → t ≡ false → u ≡ isNan known (part .high) → u ≡ hasNan (endsAt k s at)
-  unfolding hasNan endsAt
-  second-nan e h f = let here : isNan known (part .high) ≡ hasNan part = rw (sym e ∙ h) in f ∙ here ∙ part-nan
+  pub part-told : {t : Bool} → t ≡ hasNan part → t ≡ hasNan (endsAt k s at)
+  part-told e = e ∙ part-nan
 
 -- an integer's range, by the tag of the kind
 pub no-float : (k : Kind) (s : List ℕ) (at : ℕ) → OneOf (0 ∷ 1 ∷ 4 ∷ []) (tagOf the-type k) → false ≡ hasNan (endsAt k s at)

@@ -7,10 +7,13 @@ use description::Kind;
 use ranges::Range;
 use rtree::Shaped;
 ghost use mathlib.Core.Path.{_≡_};
-ghost use mathlib.Core.Bool.{false};
-ghost use Prim.Native.Nat.{_+_, _%_, _^_, _≤_, _<_};
+ghost use mathlib.Core.Bool.{false, _||_};
+ghost use Prim.Native.Nat.{_+_, _*_, _%_, _^_, _≤_, _<_};
+ghost use lib.Dec.{ltb};
+ghost use lib.Ieee.{binary32, binary64, nanBits};
 ghost use lib.ListN.{length, take, drop};
 ghost use Rattle.answers.specs.Refusals.{refusal};
+ghost use Rattle.order.specs.Little.{firstOfTwo, secondOfTwo};
 ghost use Rattle.description.specs.Kinds.{rangeBytes, isNan};
 ghost use Rattle.description.specs.Description.{sideStart};
 ghost use Rattle.ranges.specs.Ranges.{endsAt, fitted, rangeOf, rangeAt, hasNan, meets};
@@ -354,16 +357,39 @@ fn has_nan(bytes: &[u8], at: usize, kind: Kind) -> bool
     ensures { λ r. ⌜ r ≡ hasNan (endsAt kind (now (bytes .entry)) at) ⌝ }
 {
     match kind {
-        Kind::Float32 => {
-            let ends = order::pair32_at(&bytes[at..at + 8], 0);
-            order::f32_nan_pattern(ends.low) || order::f32_nan_pattern(ends.high)
-        }
-        Kind::Float64 => {
-            let ends = order::pair64_at(&bytes[at..at + 16], 0);
-            order::f64_nan_pattern(ends.low) || order::f64_nan_pattern(ends.high)
-        }
+        Kind::Float32 => f32s_have_nan(&bytes[at..at + 8]),
+        Kind::Float64 => f64s_have_nan(&bytes[at..at + 16]),
         Kind::Int32 | Kind::Int64 | Kind::Uint64 => false,
     }
+}
+
+// Whether one of two float32 has a NaN's pattern.
+fn f32s_have_nan(bytes: &[u8]) -> bool
+    ensures { λ r. ⌜ r ≡ (nanBits binary32 (firstOfTwo (now (bytes .entry)) 0 4)
+        || nanBits binary32 (secondOfTwo (now (bytes .entry)) 0 4)) ⌝ }
+{
+    let ends = order::pair32_at(bytes, 0);
+    order::f32_nan_pattern(ends.low) || order::f32_nan_pattern(ends.high)
+}
+
+// Whether one of two float64 has a NaN's pattern. Their upper bytes tell it of nearly every number, so that all eight are
+// read only to become a value.
+fn f64s_have_nan(bytes: &[u8]) -> bool
+    ensures { λ r. ⌜ r ≡ (nanBits binary64 (firstOfTwo (now (bytes .entry)) 0 8)
+        || nanBits binary64 (secondOfTwo (now (bytes .entry)) 0 8)) ⌝ }
+{
+    if is_small(order::u32_at(bytes, 4)) && is_small(order::u32_at(bytes, 12)) {
+        return false;
+    }
+    let ends = order::pair64_at(bytes, 0);
+    order::f64_nan_pattern(ends.low) || order::f64_nan_pattern(ends.high)
+}
+
+// Whether the upper four bytes of a float64 are below those of an infinity, whatever the sign.
+fn is_small(upper: u32) -> bool
+    ensures { λ r. ⌜ r ≡ ltb (2 * (upper % 0x8000_0000)) 0xffe0_0000 ⌝ }
+{
+    2 * (upper % 0x8000_0000) < 0xffe0_0000
 }
 
 // That range, which has no NaN, so that its floats become values with no test. It is read from a part of known length,
