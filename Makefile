@@ -34,18 +34,18 @@ report:
 
 # The crates that export C functions. Each is an object of its own, in which only the exported names are seen. Each
 # function starts at a multiple of 32 bytes, so that its speed does not hang on what stands before it.
-EXPORTS := c_footer c_lists c_open c_query c_box_test c_writer c_report
+EXPORTS := c_footer c_cells c_lists c_open c_query c_box_test c_writer c_report
 
 # Made anew where a file that the proofs or the code rest on is newer; what the prover says goes to build/lib.log, and
-# what it says of each exporting crate to a log of its own.
+# what it says of each exporting crate to a log of its own. One after the other: of two at once, each may find a crate that
+# the other is just looking at not proved.
 lib: build/libtussockbell.so
 
 build/libtussockbell.a: crates.txt Makefile $(shell find crates -name '*.rt' -o -name '*.antt')
 	@mkdir -p build/objects
 	@rm -f build/objects/* $@
 	@rt check $(EXPORTS) > build/lib.log 2>&1 || { cat build/lib.log; exit 1; }
-	@printf '%s\n' $(EXPORTS) | xargs -P 2 -I CRATE sh -c \
-	    'rt staticlib CRATE > build/CRATE.log 2>&1 || { cat build/CRATE.log; exit 255; }'
+	@for crate in $(EXPORTS); do rt staticlib $$crate > build/$$crate.log 2>&1 || { cat build/$$crate.log; exit 1; }; done
 	@for crate in $(EXPORTS); do (cd build/objects && ar x ../../target/staticlib/lib$$crate.a) || exit 1; done
 	@for object in build/objects/*.o; do objcopy --set-section-alignment '.text*=32' $$object || exit 1; done
 	@ar rcs $@ build/objects/*.o

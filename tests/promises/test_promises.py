@@ -23,9 +23,9 @@ DEFINITION, CONTRACT, RULED_OUT = "Definition", "Contract or theorem", "Ruled ou
 TOKEN = re.compile(
     r"`(?P<name>[^`]+)`|\b(?P<file>(?:[a-z_]+/)?(?:[A-Z]\w*/)*[A-Z]\w*):(?!:)|(?P<clause>\bclauses?\b)|(?P<end>;)"
 )
-# Functions whose proof goes through the code step by step, so that a change of code breaks the proof before any fact: their edits change
+# A function whose proof goes through the code step by step, so that a change of code breaks the proof before any fact: its edit changes
 # the contract.
-WALKED = {("opened", "ask"), ("opened", "open_and_ask"), ("batch", "query_32")}
+WALKED = {("opened", "ask")}
 FUNCTION = re.compile(r'^ *(?P<public>pub )?(?:extern "C" )?fn (?P<name>\w+)')
 
 

@@ -19,6 +19,7 @@ use Rattle.ranges.specs.Ranges.{endsOf, rangeAt}
 use Rattle.verdicts.specs.declared.Verdict.{Verdict}
 use Rattle.verdicts.specs.Verdicts.{verdict, verdictAt, storedRefusal}
 use Rattle.verdicts.proofs.Reading.{read-verdict}
+use Rattle.boxes.specs.declared.Side.{Side}
 use Rattle.boxes.specs.Boxes.{noBox, boxOf}
 use Rattle.description.proofs.Sides.{start-next, start-most}
 
@@ -46,7 +47,7 @@ module _ (kinds : List Dimension) (bytes : List ℕ) where
   unfolding boxOf over
   box-none = refl
 
-  pub box-next : (i : ℕ) → i < 4
+  box-next : (i : ℕ) → i < 4
       → set (boxOf kinds i bytes) i (record { range = rangeAt (kindAt kinds i) bytes (sideStart kinds i) }) ≡ boxOf kinds (i + 1) bytes
   unfolding boxOf over
   box-next zero h = refl
@@ -54,3 +55,8 @@ module _ (kinds : List Dimension) (bytes : List ℕ) where
   box-next (suc (suc zero)) h = refl
   box-next (suc (suc (suc zero))) h = refl
   box-next (suc (suc (suc (suc i)))) h = absurd (omega arith)
+
+  -- with what was read at the place of dimension i
+  pub box-on : (i : ℕ) → i < 4 → {at : ℕ} → at ≡ sideStart kinds i → {sides : List Side} → sides ≡ boxOf kinds i bytes
+      → {r : Range} → r ≡ rangeAt (kindAt kinds i) bytes at → set sides i (record { range = r }) ≡ boxOf kinds (i + 1) bytes
+  box-on i h here filled read = rw (filled, read, here) (box-next i h)

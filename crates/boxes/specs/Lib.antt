@@ -2,4 +2,3 @@
 pub mod Boxes
 pub mod Windows
 pub mod Least
-pub mod Code

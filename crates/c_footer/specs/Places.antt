@@ -1,19 +1,14 @@
--- The places of a footer's answers.
+-- The places of a footer's numbers.
 -- Assumes nothing.
 use Prim.Native.Nat.{ℕ}
-use mathlib.Core.Bool.{cond}
 use mathlib.Core.List.{List, [], _∷_, _++_}
-use lib.Dec.{eqb}
 use Rattle.answers.specs.Runs.{join}
-use Rattle.description.specs.declared.Description.{Description}
 use Rattle.description.specs.Kinds.{datatype}
 use Rattle.ranges.specs.declared.Range.{Range}
 use Rattle.ranges.specs.Ranges.{kindOf, endsOf}
 use Rattle.boxes.specs.declared.Side.{Side}
 use Rattle.boxes.specs.Boxes.{rangeIn}
-use Rattle.footer.specs.declared.Checked.{Checked}
 use Rattle.footer.specs.declared.Footer.{Footer}
-use Rattle.footer.specs.Fields.{start}
 
 -- a footer's numbers
 unfoldable pub numberPlaces : Footer → List ℕ
@@ -57,7 +52,3 @@ footerPlaces f =
     ++ f .maxes
     ++ f .sums
     ++ f .«null_counts»
-
--- where the schema name starts in the footer, and its bytes; 0 and 0 where the footer is refused
-abbrev pub namePlaces : Description → List ℕ → Checked → List ℕ
-namePlaces d footer r = cond (eqb (r .number) 0) (start d footer "name") 0 ∷ r .«name_size» ∷ []

@@ -1,14 +1,13 @@
-// A footer's numbers, its schema name and the cells of its tiles, as exported functions on numbers and slices.
-// include/tussockbell.h declares them for C.
+// Every number of a footer, as an exported function on numbers and slices. include/tussockbell.h declares it for C.
 use boxes::Side;
 use footer::Footer;
 ghost use mathlib.Core.Path.{_≡_};
 ghost use Prim.Native.Nat.{_+_, _≤_};
-ghost use lib.ListN.{length, getD, take, drop};
+ghost use lib.ListN.{length};
 ghost use lib.Seq.{sets};
-ghost use Rattle.footer.specs.Answer.{checkedAnswer, footerAnswer, schemaName, tileCells, allCells};
+ghost use Rattle.footer.specs.Answer.{footerAnswer};
 ghost use Rattle.c_arguments.specs.Described.{describe};
-ghost use Rattle.c_footer.specs.Places.{numberPlaces, rangePlaces, domainPlaces, footerPlaces, namePlaces};
+ghost use Rattle.c_footer.specs.Places.{numberPlaces, rangePlaces, domainPlaces, footerPlaces};
 
 // Every number of a footer.
 #[no_mangle]
@@ -24,63 +23,8 @@ pub extern "C" fn tussockbell_footer(
         (describe (now (kinds .entry)) fields capacity) «file_size» (now (footer .entry))) ⌝ }
 {
     let d = c_arguments::describe(kinds, fields, capacity);
-    let f = footer::open(d, file_size, footer);
+    let f = footer_fields::open(d, file_size, footer);
     put_footer(answer, f);
-}
-
-// Where the schema name stands in the lent footer.
-#[no_mangle]
-pub extern "C" fn tussockbell_schema_name(
-    kinds: &[u8],
-    fields: u64,
-    capacity: u64,
-    file_size: u64,
-    footer: &[u8],
-    answer: &mut [u64; 2],
-)
-    ensures places { λ _. ⌜ now (answer .exit) ≡ namePlaces (describe (now (kinds .entry)) fields capacity)
-        (now (footer .entry)) (checkedAnswer (describe (now (kinds .entry)) fields capacity) «file_size»
-        (now (footer .entry))) ⌝ }
-    ensures name { λ _. ⌜ take (getD (now (answer .exit)) 1 0) (drop (getD (now (answer .exit)) 0 0)
-        (now (footer .entry)))
-        ≡ schemaName (describe (now (kinds .entry)) fields capacity) «file_size» (now (footer .entry)) ⌝ }
-{
-    let d = c_arguments::describe(kinds, fields, capacity);
-    let r = footer::check(d, file_size, footer);
-    let start = c_arguments::or_zero(r.number == 0, 12);
-    *answer = [start, r.name_size];
-}
-
-// The cells of a tile.
-#[no_mangle]
-pub extern "C" fn tussockbell_cells(
-    kinds: &[u8],
-    fields: u64,
-    capacity: u64,
-    file_size: u64,
-    footer: &[u8],
-    tile: u64,
-) -> u64
-    ensures { λ r. ⌜ r ≡ tileCells
-        (describe (now (kinds .entry)) fields capacity) «file_size» (now (footer .entry)) tile ⌝ }
-{
-    let d = c_arguments::describe(kinds, fields, capacity);
-    footer::tile_cells(d, file_size, footer, tile)
-}
-
-// The cells of all tiles.
-#[no_mangle]
-pub extern "C" fn tussockbell_total_cells(
-    kinds: &[u8],
-    fields: u64,
-    capacity: u64,
-    file_size: u64,
-    footer: &[u8],
-) -> u64
-    ensures { λ r. ⌜ r ≡ allCells (describe (now (kinds .entry)) fields capacity) «file_size» (now (footer .entry)) ⌝ }
-{
-    let d = c_arguments::describe(kinds, fields, capacity);
-    footer::total_cells(d, file_size, footer)
 }
 
 fn put_footer(answer: &mut [u64; 730], f: Footer)

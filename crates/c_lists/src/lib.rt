@@ -1,4 +1,6 @@
 // The lists of a fragment as exported functions on numbers and slices. include/tussockbell.h declares them for C.
+use lists::Extent;
+use lists::TileOffsets;
 ghost use mathlib.Core.Path.{_≡_};
 ghost use Rattle.lists.specs.Offsets.{offsetsAnswer, extentAt, extentAnswer};
 ghost use Rattle.lists.specs.VarOffsets.{varOffsetsAnswer, varExtentAnswer};
@@ -10,8 +12,7 @@ ghost use Rattle.c_lists.specs.Places.{offsetsPlaces, sizesPlaces, exten
 pub extern "C" fn tussockbell_offsets(tiles: u64, size: u64, list: &[u8], answer: &mut [u64; 3])
     ensures { λ _. ⌜ now (answer .exit) ≡ offsetsPlaces (offsetsAnswer tiles size (now (list .entry))) ⌝ }
 {
-    let r = lists::open_offsets(list, tiles, size);
-    *answer = [r.number, r.place, r.tiles];
+    *answer = offsets_places(entries::open_offsets(list, tiles, size));
 }
 
 // A tile's offset and extent, after the whole list is checked.
@@ -25,8 +26,7 @@ pub extern "C" fn tussockbell_extent(
 )
     ensures { λ _. ⌜ now (answer .exit) ≡ extentPlaces (extentAnswer tiles size (now (list .entry)) tile) ⌝ }
 {
-    let r = lists::tile_extent(list, tiles, size, tile);
-    *answer = [r.offset, r.extent];
+    *answer = extent_places(extents::tile_extent(list, tiles, size, tile));
 }
 
 // Checks var offsets.
@@ -34,8 +34,7 @@ pub extern "C" fn tussockbell_extent(
 pub extern "C" fn tussockbell_var_offsets(tiles: u64, size: u64, list: &[u8], answer: &mut [u64; 3])
     ensures { λ _. ⌜ now (answer .exit) ≡ offsetsPlaces (varOffsetsAnswer tiles size (now (list .entry))) ⌝ }
 {
-    let r = lists::open_var_offsets(list, tiles, size);
-    *answer = [r.number, r.place, r.tiles];
+    *answer = offsets_places(entries::open_var_offsets(list, tiles, size));
 }
 
 // A tile's offset and extent in a list of var offsets, after the whole list is checked.
@@ -49,8 +48,7 @@ pub extern "C" fn tussockbell_var_extent(
 )
     ensures { λ _. ⌜ now (answer .exit) ≡ extentPlaces (varExtentAnswer tiles size (now (list .entry)) tile) ⌝ }
 {
-    let r = lists::var_tile_extent(list, tiles, size, tile);
-    *answer = [r.offset, r.extent];
+    *answer = extent_places(extents::var_tile_extent(list, tiles, size, tile));
 }
 
 // The same with no check of the list, by either rule.
@@ -64,8 +62,7 @@ pub extern "C" fn tussockbell_extent_at(
 )
     ensures { λ _. ⌜ now (answer .exit) ≡ extentPlaces (extentAt tiles size (now (list .entry)) tile) ⌝ }
 {
-    let r = lists::extent_at(list, tiles, size, tile);
-    *answer = [r.offset, r.extent];
+    *answer = extent_places(lists::extent_at(list, tiles, size, tile));
 }
 
 // Checks tile sizes, and adds them up.
@@ -73,6 +70,18 @@ pub extern "C" fn tussockbell_extent_at(
 pub extern "C" fn tussockbell_sizes(tiles: u64, list: &[u8], answer: &mut [u64; 3])
     ensures { λ _. ⌜ now (answer .exit) ≡ sizesPlaces (sizesAnswer tiles (now (list .entry))) ⌝ }
 {
-    let r = lists::open_sizes(list, tiles);
+    let r = entries::open_sizes(list, tiles);
     *answer = [r.number, r.place, r.sum];
+}
+
+fn offsets_places(r: TileOffsets) -> [u64; 3]
+    ensures { λ a. ⌜ a ≡ offsetsPlaces r ⌝ }
+{
+    [r.number, r.place, r.tiles]
+}
+
+fn extent_places(r: Extent) -> [u64; 2]
+    ensures { λ a. ⌜ a ≡ extentPlaces r ⌝ }
+{
+    [r.offset, r.extent]
 }

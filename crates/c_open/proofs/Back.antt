@@ -20,8 +20,8 @@ use Rattle.description.specs.declared.Kind.the-variants.{Int32}
 use Rattle.description.specs.Kinds.{datatype, kindOfDatatype}
 use Rattle.description.specs.Description.{kindAt}
 use Rattle.description.proofs.Datatypes.{kind-again}
-use Rattle.parts.specs.declared.Cursor.{Cursor}
-use Rattle.parts.specs.declared.Parts.{Parts}
+use Rattle.parts_state.specs.declared.Cursor.{Cursor}
+use Rattle.parts_state.specs.declared.Parts.{Parts}
 use Rattle.c_open.specs.State.{statePlaces, descriptionIn, cursorOf, stateOf, bytesIn, wordsOf, kindsIn, kindNumbers}
 
 -- the bytes of the number that bytes stand for

@@ -9,8 +9,8 @@ use Rattle.description.specs.declared.Description.{Description}
 use Rattle.description.specs.declared.Dimension.{Dimension}
 use Rattle.description.specs.Kinds.{datatype, kindOfDatatype}
 use Rattle.description.specs.Description.{kindAt}
-use Rattle.parts.specs.declared.Cursor.{Cursor}
-use Rattle.parts.specs.declared.Parts.{Parts}
+use Rattle.parts_state.specs.declared.Cursor.{Cursor}
+use Rattle.parts_state.specs.declared.Parts.{Parts}
 
 -- Eight bytes in each of eight places; and 64 bytes as the eight numbers.
 unfoldable pub bytesIn : List ℕ → ℕ → List ℕ

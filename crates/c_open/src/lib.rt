@@ -3,8 +3,8 @@
 use description::Description;
 use description::Dimension;
 use description::Kind;
-use parts::Cursor;
-use parts::Parts;
+use parts_state::Cursor;
+use parts_state::Parts;
 ghost use mathlib.Core.Path.{_≡_};
 ghost use mathlib.Core.List.{List};
 ghost use Prim.Native.Nat.{ℕ, _+_, _≤_, _<_};
@@ -12,8 +12,8 @@ ghost use lib.ListN.{length, getD};
 ghost use lib.Seq.{sets};
 ghost use Rattle.description.specs.declared.Description.{Description};
 ghost use Rattle.rtree.specs.Opening.{openAnswer};
-ghost use Rattle.parts.specs.Parts.{partsAnswer};
-ghost use Rattle.parts.specs.Took.{Took, Starts, Carries};
+ghost use Rattle.parts_state.specs.Parts.{partsAnswer};
+ghost use Rattle.parts_state.specs.Took.{Took, Starts, Carries};
 ghost use Rattle.c_arguments.specs.Described.{describe};
 ghost use Rattle.c_open.specs.Places.{openedPlaces};
 ghost use Rattle.c_open.specs.State.{statePlaces, descriptionIn, cursorOf, stateOf, bytesIn, wordsOf};
@@ -54,7 +54,7 @@ pub extern "C" fn tussockbell_parts_start(
         (stateOf (now (state .exit))) ⌝ }
 {
     let d = c_arguments::describe(kinds, fields, capacity);
-    let s = parts::start(d, file_size, footer, stated);
+    let s = parts_state::start(d, file_size, footer, stated);
     *state = [0u64; 40];
     let made = s.description;
     let k = made.kinds;

@@ -151,7 +151,7 @@ fn footer_case(case: &[u8], bytes: &[u8]) {
     let d = description(case);
     let size = order::u64_at(case, 72);
     let i = order::u64_at(case, 80);
-    let f = footer::open(d, size, bytes);
+    let f = footer_fields::open(d, size, bytes);
     number(f.number);
     number(f.place);
     number(f.version);
@@ -167,8 +167,8 @@ fn footer_case(case: &[u8], bytes: &[u8]) {
     number(f.conditions);
     number(f.length);
     footer_lists(f);
-    number(footer::tile_cells(d, size, bytes, i));
-    number(footer::total_cells(d, size, bytes));
+    number(cells::tile_cells(d, size, bytes, i));
+    number(cells::total_cells(d, size, bytes));
 }
 
 // The first three places of a list, and the last.
@@ -181,7 +181,7 @@ fn list(entries: [u64; 64]) {
 
 fn name_case(case: &[u8], bytes: &[u8]) {
     let d = description(case);
-    let name = footer::schema_name(d, order::u64_at(case, 72), bytes);
+    let name = cells::schema_name(d, order::u64_at(case, 72), bytes);
     number(name.len() as u64);
     io::write_all(STDOUT_FILENO, name);
 }
@@ -190,16 +190,16 @@ fn offsets_case(case: &[u8], bytes: &[u8]) {
     let n = order::u64_at(case, 72);
     let size = order::u64_at(case, 80);
     let i = order::u64_at(case, 88);
-    let r = lists::open_offsets(bytes, n, size);
-    offsets_answer(r, lists::tile_extent(bytes, n, size, i));
+    let r = entries::open_offsets(bytes, n, size);
+    offsets_answer(r, extents::tile_extent(bytes, n, size, i));
 }
 
 fn var_offsets_case(case: &[u8], bytes: &[u8]) {
     let n = order::u64_at(case, 72);
     let size = order::u64_at(case, 80);
     let i = order::u64_at(case, 88);
-    let r = lists::open_var_offsets(bytes, n, size);
-    offsets_answer(r, lists::var_tile_extent(bytes, n, size, i));
+    let r = entries::open_var_offsets(bytes, n, size);
+    offsets_answer(r, extents::var_tile_extent(bytes, n, size, i));
 }
 
 // What a list of offsets answers, and one of its tiles.
@@ -212,7 +212,7 @@ fn offsets_answer(r: TileOffsets, e: Extent) {
 }
 
 fn sizes_case(case: &[u8], bytes: &[u8]) {
-    let r = lists::open_sizes(bytes, order::u64_at(case, 72));
+    let r = entries::open_sizes(bytes, order::u64_at(case, 72));
     number(r.number);
     number(r.place);
     number(r.sum);
@@ -234,10 +234,10 @@ fn range(k: Kind, low: u64, high: u64) -> Range {
     let a = (low % 0x1_0000_0000) as u32;
     let z = (high % 0x1_0000_0000) as u32;
     match k {
-        Kind::Int32 => Range::I32(order::i32_of(a), order::i32_of(z)),
-        Kind::Int64 => Range::I64(order::i64_of(low), order::i64_of(high)),
-        Kind::Float32 => Range::F32(order::f32_of(a), order::f32_of(z)),
-        Kind::Float64 => Range::F64(order::f64_of(low), order::f64_of(high)),
+        Kind::Int32 => Range::I32(ints::i32_of(a), ints::i32_of(z)),
+        Kind::Int64 => Range::I64(ints::i64_of(low), ints::i64_of(high)),
+        Kind::Float32 => Range::F32(floats::f32_of(a), floats::f32_of(z)),
+        Kind::Float64 => Range::F64(floats::f64_of(low), floats::f64_of(high)),
         Kind::Uint64 => Range::U64(low, high),
     }
 }

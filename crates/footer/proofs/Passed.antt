@@ -1,5 +1,4 @@
--- What is known of a footer that is not refused: each check of the list passed. The small answer and the large one are
--- made by the same test.
+-- What is known of a footer that is not refused: each check of the list passed. The small answer is made by that test.
 -- Assumes nothing.
 use mathlib.Core.Path.{_≡_, refl, sym, ap, _∙_}
 use mathlib.Core.Bool.{Bool, true, false}
@@ -20,7 +19,7 @@ use Rattle.description.proofs.Limits.{within, Kept, kept}
 use Rattle.footer.specs.declared.Checked.{Checked}
 use Rattle.footer.specs.Fields.{start, footerBytes, nameSizeOf, numberOf, tilesOf, lastCellsOf, domainBytes}
 use Rattle.footer.specs.Checks.{numberOutside, headChecks, sizeChecks, fieldChecks, footerRefusal}
-use Rattle.footer.specs.Answer.{acceptedChecked, acceptedFooter, refusedChecked, refusedFooter, checkedAnswer, checkedAnswerBy, footerAnswer, footerAnswerBy}
+use Rattle.footer.specs.Answer.{acceptedChecked, refusedChecked, checkedAnswer, checkedAnswerBy}
 use Rattle.footer.proofs.Domain.{ranges-anywhere}
 use Rattle.footer.proofs.Fields.{footer-bytes, start-domain}
 use Rattle.footer.proofs.Parts.{footer-parts}
@@ -94,7 +93,7 @@ module _ (d : Description) (F : ℕ) (footer : List ℕ) where
         length-field = omega (arith, reads, footer-bytes d footer);
       }
 
-  -- the answers by the one test
+  -- the answer by that test
   pub checked-passed : footerRefusal d F footer .number ≡ 0 → checkedAnswer d F footer ≡ acceptedChecked d footer
   unfolding checkedAnswerBy
   checked-passed h = rw (eq-eqb _ 0 h)
@@ -103,15 +102,6 @@ module _ (d : Description) (F : ℕ) (footer : List ℕ) where
       → checkedAnswer d F footer ≡ refusedChecked (footerRefusal d F footer .number) (footerRefusal d F footer .place)
   unfolding checkedAnswerBy
   checked-refused h = rw (ne-eqb _ 0 h)
-
-  pub footer-passed : footerRefusal d F footer .number ≡ 0 → footerAnswer d F footer ≡ acceptedFooter d footer
-  unfolding footerAnswerBy
-  footer-passed h = rw (eq-eqb _ 0 h)
-
-  pub footer-refused : (footerRefusal d F footer .number ≡ 0 → ⊥)
-      → footerAnswer d F footer ≡ refusedFooter (footerRefusal d F footer .number) (footerRefusal d F footer .place)
-  unfolding footerAnswerBy
-  footer-refused h = rw (ne-eqb _ 0 h)
 
   -- the refusal's number is the answer's
   pub checked-number : checkedAnswer d F footer .number ≡ footerRefusal d F footer .number

@@ -1,4 +1,5 @@
-// The footer of a fragment's metadata: checked, opened, its schema name, and the cells of its tiles.
+// The footer of a fragment's metadata, checked. Its fields are read in `footer_fields`, its schema name and the cells
+// of its tiles are answered in `cells`.
 use answers::Refusal;
 use boxes::Side;
 use description::Description;
@@ -6,15 +7,13 @@ ghost use mathlib.Core.Path.{_≡_};
 ghost use Prim.Native.Nat.{_+_, _*_, _≤_};
 ghost use lib.ListN.{length, getD, take, drop};
 ghost use Rattle.answers.specs.Checks.{first};
-ghost use Rattle.description.specs.Limits.{mostFields};
 ghost use Rattle.description.specs.Description.{boxBytes, sidesOf};
 ghost use Rattle.description.specs.Rules.{current};
 ghost use Rattle.boxes.specs.Boxes.{rangesRefusal};
 ghost use Rattle.footer.specs.Checks.{noFlag, flagSet, numberOutside, fileOffsetsRefusal, headChecks};
 ghost use Rattle.footer.specs.Checks.{checksBeforeTiles, checksFromTilesBy, footerRefusal};
-ghost use Rattle.footer.specs.Answer.{cellsOf, entries, checkedAnswer, footerAnswer, refusedFooter};
-ghost use Rattle.footer.specs.Answer.{acceptedFooter, schemaName, tileCells, allCells};
-ghost use Rattle.footer.specs.Code.Places.{BeforeTiles, FromTiles, ReadOf};
+ghost use Rattle.footer.specs.Answer.{checkedAnswer};
+ghost use Rattle.footer.specs.Code.Places.{BeforeTiles, FromTiles};
 
 // What opening a tree, the name and the cells need of a footer. `domain` is the start of the domain's box, 0 where
 // refused.
@@ -82,140 +81,6 @@ pub fn check(description: Description, file_size: u64, bytes: &[u8]) -> Checked
         domain: domain,
         tiles: order::u64_at(bytes, tiles),
         last_cells: order::u64_at(bytes, tiles + 8),
-    }
-}
-
-// The footer checked, with all of its numbers.
-pub fn open(description: Description, file_size: u64, bytes: &[u8]) -> Footer
-    ensures { λ r. ⌜ r ≡ footerAnswer description «file_size» (now (bytes .entry)) ⌝ }
-{
-    let checked = check(description, file_size, bytes);
-    if checked.number != 0 {
-        return refused(checked.number, checked.place);
-    }
-    let from = checked.domain as usize;
-    let to = from + description.box_bytes();
-    let kinds = description.kinds;
-    let domain = boxes::read_box(&bytes[from..to], kinds, description.dimensions);
-    read(description, bytes, checked, domain)
-}
-
-// The schema name as that part of the lent footer; an empty part where the footer is refused.
-pub fn schema_name(description: Description, file_size: u64, bytes: &[u8]) -> &[u8]
-    ensures { λ r. ⌜ now r ≡ schemaName description «file_size» (now (bytes .entry)) ⌝ }
-{
-    let told = check_footer(description, file_size, bytes);
-    if told.number != 0 {
-        return &bytes[0..0];
-    }
-    let name = order::u64_at(bytes, 4) as usize;
-    let end = 12 + name;
-    &bytes[12..end]
-}
-
-// The cells of tile i, for callers who have an accepted footer.
-pub fn cells_at(tiles: u64, last_cells: u64, capacity: u64, i: u64) -> u64
-    ensures { λ r. ⌜ r ≡ cellsOf tiles «last_cells» capacity i ⌝ }
-{
-    if tiles <= i {
-        return 0;
-    }
-    if i + 1 < tiles { capacity } else { last_cells }
-}
-
-// The cells of tile i.
-pub fn tile_cells(description: Description, file_size: u64, bytes: &[u8], i: u64) -> u64
-    ensures { λ r. ⌜ r ≡ tileCells description «file_size» (now (bytes .entry)) i ⌝ }
-{
-    let checked = check(description, file_size, bytes);
-    cells_at(checked.tiles, checked.last_cells, description.capacity, i)
-}
-
-// The cells of all tiles.
-pub fn total_cells(description: Description, file_size: u64, bytes: &[u8]) -> u64
-    ensures { λ r. ⌜ r ≡ allCells description «file_size» (now (bytes .entry)) ⌝ }
-{
-    let checked = check(description, file_size, bytes);
-    if checked.number != 0 {
-        return 0;
-    }
-    (checked.tiles - 1) * description.capacity + checked.last_cells
-}
-
-// Every number of an accepted footer, by its small answer and its domain.
-fn read(description: Description, bytes: &[u8], checked: Checked, domain: [Side; 4]) -> Footer
-    requires { ⌜ ReadOf description (now bytes) checked domain ⌝ }
-    ensures { λ r. ⌜ r ≡ acceptedFooter description (now (bytes .entry)) ⌝ }
-{
-    let n = description.fields as usize;
-    let dense = checked.domain as usize - 2;
-    let tiles = checked.domain as usize + description.box_bytes();
-    let sizes = tiles + 18;
-    let rtree = sizes + 24 * n;
-    let offsets = rtree + 8;
-    let fragment = offsets + 64 * n;
-    Footer {
-        number: 0,
-        place: 0,
-        version: order::u32_at(bytes, 0) as u64,
-        name_size: checked.name_size,
-        dense: byte_at(bytes, dense),
-        null_domain: byte_at(bytes, dense + 1),
-        domain: domain,
-        tiles: checked.tiles,
-        last_cells: checked.last_cells,
-        timestamps: byte_at(bytes, tiles + 16),
-        deletes: byte_at(bytes, tiles + 17),
-        file_sizes: list_at(bytes, sizes, 0, n),
-        file_var_sizes: list_at(bytes, sizes, 1, n),
-        file_validity_sizes: list_at(bytes, sizes, 2, n),
-        rtree: order::u64_at(bytes, rtree),
-        tile_offsets: list_at(bytes, offsets, 0, n),
-        var_offsets: list_at(bytes, offsets, 1, n),
-        var_sizes: list_at(bytes, offsets, 2, n),
-        validity: list_at(bytes, offsets, 3, n),
-        mins: list_at(bytes, offsets, 4, n),
-        maxes: list_at(bytes, offsets, 5, n),
-        sums: list_at(bytes, offsets, 6, n),
-        null_counts: list_at(bytes, offsets, 7, n),
-        fragment: order::u64_at(bytes, fragment),
-        conditions: order::u64_at(bytes, fragment + 8),
-        length: order::u64_at(bytes, fragment + 16),
-    }
-}
-
-fn refused(number: u64, place: u64) -> Footer
-    ensures { λ r. ⌜ r ≡ refusedFooter number place ⌝ }
-{
-    let zeros = [0u64; 64];
-    let domain = boxes::no_box();
-    Footer {
-        number: number,
-        place: place,
-        version: 0,
-        name_size: 0,
-        dense: 0,
-        null_domain: 0,
-        domain: domain,
-        tiles: 0,
-        last_cells: 0,
-        timestamps: 0,
-        deletes: 0,
-        file_sizes: zeros,
-        file_var_sizes: zeros,
-        file_validity_sizes: zeros,
-        rtree: 0,
-        tile_offsets: zeros,
-        var_offsets: zeros,
-        var_sizes: zeros,
-        validity: zeros,
-        mins: zeros,
-        maxes: zeros,
-        sums: zeros,
-        null_counts: zeros,
-        fragment: 0,
-        conditions: 0,
-        length: 0,
     }
 }
 
@@ -371,21 +236,6 @@ fn check_offsets(bytes: &[u8], at: usize, count: usize, limit: u64) -> Refusal
         i += 1;
     }
     Refusal::none()
-}
-
-// The n entries of the list that k others stand before, from a place on; and 0 in the places past them.
-fn list_at(bytes: &[u8], from: usize, k: usize, n: usize) -> [u64; 64]
-    requires { ⌜ (from + k * (8 * n) + 8 * n ≤ length (now bytes)) × (n ≤ mostFields) ⌝ }
-    ensures { λ r. ⌜ r ≡ entries (now (bytes .entry)) n (from + k * (8 * n)) ⌝ }
-{
-    let at = from + k * (8 * n);
-    let mut list = [0u64; 64];
-    let mut i: usize = 0;
-    while i < n {
-        list[i] = order::u64_at(bytes, at + 8 * i);
-        i += 1;
-    }
-    list
 }
 
 // A byte; 0 past the end.

@@ -148,7 +148,7 @@ fn sound_at(bytes: &[u8], at: usize, kind: Kind) -> bool
     match kind {
         Kind::Float32 => sound_f32(ends.low as u32, ends.high as u32),
         Kind::Float64 => sound_f64(ends.low, ends.high),
-        _ => ranges::key_of(kind, ends.low) <= ranges::key_of(kind, ends.high),
+        _ => keys::key_of(kind, ends.low) <= keys::key_of(kind, ends.high),
     }
 }
 
@@ -161,7 +161,7 @@ fn sound_f32(low: u32, high: u32) -> bool
     if !finite_f32(high) {
         return false;
     }
-    order::f32_at_most(f32::from_bits(low), f32::from_bits(high))
+    floats::f32_at_most(f32::from_bits(low), f32::from_bits(high))
 }
 
 // The same of 64 bits.
@@ -174,7 +174,7 @@ fn sound_f64(low: u64, high: u64) -> bool
     if !finite_f64(high) {
         return false;
     }
-    order::f64_at_most(f64::from_bits(low), f64::from_bits(high))
+    floats::f64_at_most(f64::from_bits(low), f64::from_bits(high))
 }
 
 // Neither a NaN's pattern nor an infinity's: doubled, the pattern has lost its sign, and is below the infinity's.

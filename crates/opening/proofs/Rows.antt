@@ -25,7 +25,7 @@ use Rattle.description.specs.declared.Dimension.{Dimension}
 use Rattle.description.specs.declared.Description.{Description}
 use Rattle.description.specs.Description.{sideStart, sidesOf, boxBytes}
 use Rattle.boxes.specs.Boxes.{rangesRefusal, boxInside, boxRefusal}
-use Rattle.boxes.specs.Code.Row.{rowBox, rowRefusal}
+use Rattle.rows.specs.Code.Row.{rowBox, rowRefusal}
 use Rattle.boxes.proofs.Moving.{moved, moved-otherwise, ranges-moved, fault-before}
 use Rattle.tree.specs.Shape.{up, boxes, levelStart}
 use Rattle.tree.proofs.Counts.{up-tight, up-enough}

@@ -140,7 +140,7 @@ fn check_row(
     let from = start + first * box_bytes;
     let to = from + count * box_bytes;
     let kinds = description.kinds;
-    let told = boxes::check_row(
+    let told = rows::check_row(
         &body[from..to],
         kinds,
         description.dimensions,

@@ -8,6 +8,5 @@ pub mod Sides
 pub mod Worth
 pub mod Floats
 pub mod Infinities
-pub mod Signed
 pub mod Read
 pub mod Cases

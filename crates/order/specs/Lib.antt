@@ -1,3 +1,3 @@
--- The definitions that this crate's contracts cite.
+-- The definitions that contracts cite: this crate's, and those of the crates that use it.
 pub mod Little
 pub mod Key

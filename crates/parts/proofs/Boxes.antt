@@ -25,12 +25,14 @@ use Rattle.tree.proofs.Places.{start-root, start-down}
 use Rattle.footer.specs.Fields.{tilesOf, domainBytes}
 use Rattle.rtree.specs.Body.{fanoutOf, storedCount}
 use Rattle.rtree.specs.Opening.{boxesRefusal}
-use Rattle.parts.specs.declared.Cursor.{Cursor}
-use Rattle.parts.specs.declared.Parts.{Parts}
-use Rattle.parts.specs.Parts.{innerBytes}
-use Rattle.parts.specs.Code.Rest.{boxCheck, boxesFrom, runCheck}
+use Rattle.parts_state.specs.declared.Cursor.{Cursor}
+use Rattle.parts_state.specs.declared.Parts.{Parts}
+use Rattle.parts_state.specs.Parts.{innerBytes}
+use Rattle.parts_state.specs.Code.Rest.{boxCheck, boxesFrom}
+use Rattle.parts_state.specs.Code.State.{InTree, Going, Holds}
+use Rattle.parts.specs.Code.Runs.{runCheck}
 use Rattle.parts.specs.Code.Cursor.{onward, moved, lowered, passed}
-use Rattle.parts.specs.Code.State.{InTree, Going, Holds, Reads, Stored}
+use Rattle.parts.specs.Code.Steps.{Reads, Stored}
 use Rattle.parts.proofs.Lists.{read-there, pasted-before, pasted-upto}
 use Rattle.parts.proofs.Levels.{from-run, from-next, start-after, own-below, own-fits}
 use Rattle.parts.proofs.Rows.{run-said, root-said}

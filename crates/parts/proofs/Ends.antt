@@ -28,14 +28,15 @@ use Rattle.rtree.specs.declared.Opened.{Opened}
 use Rattle.rtree.specs.Body.{fanoutOf, levelsOf, storedCount, shapeRefusal}
 use Rattle.rtree.proofs.Passed.{box-bytes-most}
 use Rattle.rtree.specs.Opening.{boxesRefusal, bodyRefusal, refusedIn, openAnswer, openAnswerBy}
-use Rattle.parts.specs.declared.Parts.{Parts}
-use Rattle.parts.specs.Parts.{innerBytes, frontShown, shownRefusal, countsShown, whichOf, partsAnswer}
+use Rattle.parts_state.specs.declared.Parts.{Parts}
+use Rattle.parts_state.specs.Parts.{innerBytes, frontShown, shownRefusal, countsShown, whichOf, partsAnswer}
+use Rattle.parts_state.specs.Code.State.{itemBytes, InTree, Going, Holds}
+use Rattle.parts_state.proofs.Shown.{shown, say-shown, say-open, say-other, counts-none, front-none, front-short, front-alone}
+use Rattle.parts_state.proofs.Whole.{shown-shape}
 use Rattle.parts.specs.Code.Cursor.{onward, refused}
-use Rattle.parts.specs.Code.State.{itemBytes, wholeIn, innerIn, InTree, Going, Holds}
-use Rattle.parts.proofs.Shown.{shown, say-shown, say-open, say-other, counts-none, front-code, front-none, front-short, front-alone}
+use Rattle.parts.specs.Code.Steps.{wholeIn, innerIn}
 use Rattle.parts.proofs.Levels.{from-end, start-after}
-use Rattle.parts.proofs.Front.{footer-has, some-bytes, shown-counts}
-use Rattle.parts.proofs.Whole.{shown-shape}
+use Rattle.parts.proofs.Front.{front-code, footer-has, some-bytes, shown-counts}
 
 module _ {d : Description} {F : ℕ} {footer : List ℕ} {stated : ℕ} {body work : List ℕ} {s : Parts} {p : ℕ}
     (g : Going d F footer stated body work s p) (some-fanout : 0 < s .cursor .fanout) where

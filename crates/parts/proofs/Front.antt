@@ -1,6 +1,7 @@
--- What holds while bytes come: the numbers of a state are in range (`in-range`); once the first eight bytes are there,
--- what they show is refused for good (`front-refused`), or the state stands at the root's count (`front-passed`); a count
--- that is wrong is refused for good (`count-refused`), one that is right is passed by (`count-passed`).
+-- What holds while bytes come: what is shown before the counts is what code works out of the shape (`front-code`); the
+-- numbers of a state are in range (`in-range`); once the first eight bytes are there, what they show is refused for
+-- good (`front-refused`), or the state stands at the root's count (`front-passed`); a count that is wrong is refused
+-- for good (`count-refused`), one that is right is passed by (`count-passed`).
 -- Assumes nothing.
 use mathlib.Core.Path.{_≡_, refl, ap, sym, _∙_}
 use mathlib.Core.Bool.{Bool, true, false, cond}
@@ -9,9 +10,9 @@ use Prim.Native.Nat.{ℕ, zero, suc, _+_, _-_, _*_, _≤_, _<_, min}
 use native.Mathlib.Nat.{zero-add, mul-le-mul, mul-le-mul-left, mul-le-mul-right}
 use native.Mathlib.Decide.{decLe}
 use native.Mathlib.Omega.{arith}
-use lib.Dec.{eqb}
+use lib.Dec.{leb, eqb}
 use lib.ListN.{length, getD, take, drop}
-use borrow.Author.Tests.{eq-eqb, ne-eqb, le-ltb, le-leb, eqb-true, ltb-false, not-false}
+use borrow.Author.Tests.{eq-eqb, ne-eqb, le-ltb, le-leb, leb-false, eqb-true, ltb-false, not-false}
 use Rattle.answers.specs.Refusals as refusals
 use Rattle.answers.specs.Runs.{over}
 use Rattle.answers.specs.Checks.{otherwise, first}
@@ -27,20 +28,50 @@ use Rattle.tree.specs.Shape.{boxes, boxesAbove, height, levels, levelStart, bod
 use Rattle.tree.proofs.Counts.{boxes-pos}
 use Rattle.tree.proofs.Limits.{root-near, boxes-small}
 use Rattle.tree.proofs.Places.{start-root, leaves-end}
-use Rattle.tree.proofs.Table.{shape-levels, count-at, count-most}
+use Rattle.tree.proofs.Table.{shape-levels, shape-boxes, shape-bytes, count-at, count-most}
 use Rattle.footer.specs.Fields.{tilesOf, domainBytes}
 use Rattle.footer.specs.Checks.{footerRefusal}
 use Rattle.footer.proofs.Passed.{Passed, passed}
 use Rattle.rtree.specs.Body.{fanoutOf, levelsOf, countPlace, storedCount}
 use Rattle.rtree.specs.Opening.{refusedIn}
 use Rattle.rtree.proofs.Passed.{box-bytes-most}
-use Rattle.parts.specs.declared.Parts.{Parts}
-use Rattle.parts.specs.Parts.{innerBytes, frontShown, countsShown, shownRefusal, whichOf, partsAnswer}
+use Rattle.parts_state.specs.declared.Parts.{Parts}
+use Rattle.parts_state.specs.Parts.{innerBytes, frontShown, countsShown, shownRefusal, whichOf, partsAnswer}
+use Rattle.parts_state.specs.Code.State.{Blank, InTree, Going, Holds}
+use Rattle.parts_state.proofs.Shown.{shown, say-shown, front-have, front-none, count-stops}
 use Rattle.parts.specs.Code.Cursor.{onward, refused, fronted, counted}
-use Rattle.parts.specs.Code.State.{mostWork, InRange, wholeIn, innerIn, Blank, InTree, Going, Holds, Reads}
+use Rattle.parts.specs.Code.Steps.{mostWork, InRange, wholeIn, innerIn, Reads}
 use Rattle.parts.proofs.Lists.{read-there}
-use Rattle.parts.proofs.Shown.{shown, say-shown, inner-boxes, front-have, front-code, count-stops}
 use Rattle.parts.proofs.Levels.{own-fits, own-root, from-first}
+
+-- the inner boxes are all but the leaves
+pub inner-boxes : (f n : ℕ) → allBoxes f n - n ≡ boxesAbove f n 0
+unfolding allBoxes boxesAbove levels boxes over
+inner-boxes f n =
+    let z : height f n - 0 ≡ height f n = omega arith in
+    rw z (omega arith)
+
+-- what code works out of the shape is what is shown before the counts
+module _ (stated room have f l n b : ℕ) (some : leastTiles ≤ n) (most : n ≤ mostTiles) (w : b ≤ mostBoxBytes)
+    (enough : 8 ≤ stated) where
+  pub front-code :
+      frontShown stated room have f l (shapeOf f n b .levels) (wholeIn f n b) (innerIn f n b)
+      ≡ frontShown stated room have f l (levels f n) (bodyBytes f n b) (innerBytes f n b)
+  unfolding frontShown first
+  front-code = go (leb 4 have) refl (outside leastFanout mostFanout f) refl
+    where
+      go : (t : Bool) → leb 4 have ≡ t → (o : Bool) → outside leastFanout mostFanout f ≡ o
+          → frontShown stated room have f l (shapeOf f n b .levels) (wholeIn f n b) (innerIn f n b)
+          ≡ frontShown stated room have f l (levels f n) (bodyBytes f n b) (innerBytes f n b)
+      go false e o q =
+          let few = leb-false 4 have e in
+          front-none stated room have f l (shapeOf f n b .levels) (wholeIn f n b) (innerIn f n b) enough few
+          ∙ sym (front-none stated room have f l (levels f n) (bodyBytes f n b) (innerBytes f n b) enough few)
+      go true e true q = rw (le-ltb stated 8 enough, e, q)
+      go true e false q =
+          let g = within leastFanout mostFanout f q in
+          let z : Sizes n f = record { some = some; most = most; least = g .0; widest = g .1 } in
+          rw (shape-bytes z b w, shape-levels z b w, shape-boxes z b w, inner-boxes f n)
 
 inner-small : {n f : ℕ} (z : Sizes n f) (b : ℕ) → b ≤ mostBoxBytes → innerBytes f n b ≤ mostBoxBytes * (25 * mostTiles)
 inner-small {n} {f} z b w =

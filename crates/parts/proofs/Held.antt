@@ -16,10 +16,11 @@ use borrow.Author.Tests.{eq-eqb, ne-eqb}
 use Rattle.description.specs.declared.Description.{Description}
 use Rattle.description.specs.Description.{boxBytes}
 use Rattle.rtree.proofs.Passed.{box-bytes-most}
-use Rattle.parts.specs.declared.Cursor.{Cursor}
-use Rattle.parts.specs.declared.Parts.{Parts}
+use Rattle.parts_state.specs.declared.Cursor.{Cursor}
+use Rattle.parts_state.specs.declared.Parts.{Parts}
+use Rattle.parts_state.specs.Code.State.{itemBytes, InTree, Blank, Going, Holds}
 use Rattle.parts.specs.Code.Cursor.{withCursor, keeping}
-use Rattle.parts.specs.Code.State.{itemBytes, InRange, Gathered, InTree, Blank, Going, Holds, Reads, Some}
+use Rattle.parts.specs.Code.Steps.{InRange, Gathered, Reads, Some}
 use Rattle.parts.proofs.Lists.{read-first, read-there}
 
 module _ {d : Description} {F : ℕ} {footer : List ℕ} {stated : ℕ} {body work : List ℕ} {s : Parts} {p : ℕ}

@@ -23,8 +23,8 @@ use Rattle.tree.proofs.Root.{height-one}
 use Rattle.tree.proofs.Places.{start-down}
 use Rattle.rtree.specs.Body.{fanoutOf}
 use Rattle.rtree.specs.Opening.{rootRefusal, innerRefusal, levelRefusal, boxesRefusal}
-use Rattle.parts.specs.Parts.{innerBytes}
-use Rattle.parts.specs.Code.Rest.{boxCheck, below, boxesFrom}
+use Rattle.parts_state.specs.Parts.{innerBytes}
+use Rattle.parts_state.specs.Code.Rest.{boxCheck, below, boxesFrom}
 
 module _ (d : Description) (n : ℕ) (domain body : List ℕ) where
   abbrev f : ℕ

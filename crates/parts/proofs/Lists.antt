@@ -9,7 +9,7 @@ use native.Mathlib.Omega.{arith}
 use lib.ListN.{length, take, drop, length-take, length-drop, length-append}
 use lib.Seq.{paste, take-paste, take-take, take-add, drop-drop, drop-append-le, take-append-le, take-nil, drop-nil, take-length}
 use Rattle.answers.proofs.Joined.{part-of-part}
-use Rattle.parts.specs.Code.State.{Reads}
+use Rattle.parts.specs.Code.Steps.{Reads}
 
 pub take-drop : (n m : ℕ) (l : List ℕ) → take m (drop n l) ≡ drop n (take (n + m) l)
 take-drop zero m l = rw zero-add

@@ -7,8 +7,8 @@ use Prim.Native.Nat.{ℕ, _+_, _-_, _≤_, _<_, min}
 use native.Mathlib.Omega.{arith}
 use lib.ListN.{length, take, drop, length-append, length-take, length-drop}
 use lib.Seq.{take-take, take-all, take-append-seam, drop-append-seam}
-use Rattle.parts.specs.Took.{Begins}
-use Rattle.parts.specs.Code.State.{Reads}
+use Rattle.parts_state.specs.Took.{Begins}
+use Rattle.parts.specs.Code.Steps.{Reads}
 use Rattle.parts.proofs.Lists.{take-drop}
 
 module _ (got bytes body : List ℕ) (b : Begins (got ++ bytes) body) where

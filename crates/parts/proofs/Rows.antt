@@ -20,7 +20,7 @@ use Rattle.answers.proofs.Runs.{over-ext, over-map}
 use Rattle.description.specs.declared.Description.{Description}
 use Rattle.description.specs.Description.{sidesOf, sideStart, boxBytes}
 use Rattle.boxes.specs.Boxes.{boxRefusal}
-use Rattle.boxes.specs.Code.Row.{rowBox, rowRefusal}
+use Rattle.rows.specs.Code.Row.{rowBox, rowRefusal}
 use Rattle.boxes.proofs.Moving.{moved, moved-otherwise}
 use Rattle.tree.specs.Shape.{up, boxes, height, levelStart}
 use Rattle.tree.proofs.Counts.{up-enough}
@@ -30,8 +30,9 @@ use Rattle.rtree.specs.Body.{fanoutOf, placeOf, boxAt}
 use Rattle.rtree.specs.Opening.{rootRefusal, innerRefusal}
 use Rattle.opening.specs.Code.Stored.{runRefusal, Run}
 use Rattle.opening.proofs.Rows.{row-said, box-moved, each-from}
-use Rattle.parts.specs.Code.Rest.{boxCheck, childCheck, placed}
-use Rattle.parts.specs.Code.State.{Reads}
+use Rattle.parts_state.specs.Code.Rest.{boxCheck}
+use Rattle.parts.specs.Code.Runs.{childCheck, placed}
+use Rattle.parts.specs.Code.Steps.{Reads}
 use Rattle.parts.proofs.Lists.{alike, read-part, read-there}
 
 -- a piece of a row: boxes i, .. , `more` of them, that have one parent

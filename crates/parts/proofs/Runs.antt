@@ -14,10 +14,10 @@ use Rattle.answers.specs.Refusals.{refusal}
 use Rattle.description.specs.Limits.{mostTiles}
 use Rattle.tree.specs.Shape.{mostBoxBytes}
 use Rattle.rtree.proofs.Passed.{box-bytes-most}
-use Rattle.parts.specs.declared.Cursor.{Cursor}
-use Rattle.parts.specs.declared.Parts.{Parts}
+use Rattle.parts_state.specs.declared.Cursor.{Cursor}
+use Rattle.parts_state.specs.declared.Parts.{Parts}
 use Rattle.parts.specs.Code.Cursor.{moved}
-use Rattle.parts.specs.Code.State.{Reads, RunOf, TakesRun}
+use Rattle.parts.specs.Code.Steps.{Reads, RunOf, TakesRun}
 use Rattle.parts.proofs.Lists.{take-drop, read-first, read-rest}
 
 module _ {s : Parts} {b : ℕ} {c : Cursor} {bytes : List ℕ} {m : ℕ} (run : RunOf s b c bytes m) where

@@ -1,4 +1,4 @@
 -- What only the code goes by: nothing here is promised to a user of the library.
 pub mod Cursor
-pub mod Rest
-pub mod State
+pub mod Runs
+pub mod Steps

@@ -1,4 +1,2 @@
--- The definitions that this crate's contracts cite.
-pub mod Parts
-pub mod Took
+-- What the contracts of private functions cite; those of public ones cite the crate `parts_state`.
 pub mod Code

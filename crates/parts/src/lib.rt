@@ -1,7 +1,9 @@
-// A tree body that arrives in parts: start takes the footer and the stated length of the body, block takes its bytes as
-// they come, and finish tells what they came to.
+// A tree body that arrives in parts: from the state of a start on, block takes its bytes as they come, and finish tells
+// what they came to.
 use answers::Refusal;
 use description::Description;
+use parts_state::Cursor;
+use parts_state::Parts;
 use rtree::Opened;
 ghost use mathlib.Core.Path.{_≡_};
 ghost use mathlib.Core.Bool.{true, _&&_, cond};
@@ -14,13 +16,13 @@ ghost use Rattle.answers.specs.Checks.{otherwise, each};
 ghost use Rattle.description.specs.Description.{boxBytes};
 ghost use Rattle.tree.specs.Shape.{mostBoxBytes, shapeOf};
 ghost use Rattle.rtree.specs.Opening.{refusedIn};
-ghost use Rattle.parts.specs.Parts.{frontShown, whichOf, partsAnswer};
-ghost use Rattle.parts.specs.Took.{Starts, Carries, Answers};
-ghost use Rattle.parts.specs.Code.Rest.{placed, childCheck, runCheck};
-ghost use Rattle.parts.specs.Code.Cursor.{begun, withCursor};
-ghost use Rattle.parts.specs.Code.Cursor.{refused, keeping, fronted, counted, moved, lowered, passed};
-ghost use Rattle.parts.specs.Code.State.{itemBytes, InRange, RunOf, Gathered, innerIn, wholeIn};
-ghost use Rattle.parts.specs.Code.State.{SameRoom, Stored, Takes, TakesSome, TakesNumber, TakesRun, Ends};
+ghost use Rattle.parts_state.specs.Parts.{frontShown, whichOf, partsAnswer};
+ghost use Rattle.parts_state.specs.Took.{Carries, Answers};
+ghost use Rattle.parts_state.specs.Code.State.{itemBytes};
+ghost use Rattle.parts.specs.Code.Cursor.{withCursor, refused, keeping, fronted, counted, moved, lowered, passed};
+ghost use Rattle.parts.specs.Code.Runs.{placed, childCheck, runCheck};
+ghost use Rattle.parts.specs.Code.Steps.{InRange, RunOf, Gathered, innerIn, wholeIn};
+ghost use Rattle.parts.specs.Code.Steps.{SameRoom, Stored, Takes, TakesSome, TakesNumber, TakesRun, Ends};
 
 // More than any work buffer needs.
 const MOST_WORK: usize = 1_099_511_627_776;
@@ -28,70 +30,6 @@ const MOST_WORK: usize = 1_099_511_627_776;
 // The boxes of an inner level that are checked before they are copied: few, so that the copying of some goes on while
 // the next are checked.
 const RUN: usize = 64;
-
-// What has come, in numbers.
-pub struct Cursor {
-    // what is refused for good, whatever comes; number 0 while nothing is
-    pub number: u64,
-    pub place: u64,
-    pub which: u64,
-    // 0 until the first eight bytes are there; then the fanout and L
-    pub fanout: usize,
-    pub levels: usize,
-    // what comes next: a level by its distance from the leaves, 1 and its count where that has come, a box of it by its
-    // index
-    pub level: usize,
-    pub counted: usize,
-    pub count: usize,
-    pub index: usize,
-    // where the level's boxes go in the work buffer, and where those of the level above it stand
-    pub own: usize,
-    pub parents: usize,
-    // the bytes of all that came whole; and of a number or box that came in part, how many bytes
-    pub done: u64,
-    pub kept: usize,
-    // the first fault of a box
-    pub box_number: u64,
-    pub box_place: u64,
-}
-
-// What goes from call to call, beside the work buffer.
-pub struct Parts {
-    // what came with the start: n, the domain's bytes and the stated length of the body
-    pub description: Description,
-    pub tiles: u64,
-    pub domain: [u8; 64],
-    pub stated: u64,
-    pub cursor: Cursor,
-    // the bytes of a number or box that came in part
-    pub held: [u8; 64],
-}
-
-// Takes the footer and the stated length of the body.
-pub fn start(description: Description, file_size: u64, footer: &[u8], stated: u64) -> Parts
-    ensures { λ r. ⌜ Starts description «file_size» (now (footer .entry)) stated r ⌝ }
-{
-    let checked = footer::check(description, file_size, footer);
-    let mut domain = [0u8; 64];
-    if checked.number != 0 {
-        return begun(
-            description,
-            checked.number,
-            checked.place,
-            0,
-            0,
-            domain,
-            stated,
-        );
-    }
-    if stated < 8 {
-        return begun(description, Refusal::BYTES, stated, 1, 0, domain, stated);
-    }
-    let from = checked.domain as usize;
-    let to = from + description.box_bytes();
-    put(&mut domain, 0, &footer[from..to]);
-    begun(description, 0, 0, 0, checked.tiles, domain, stated)
-}
 
 // Takes one block, of any length. Bytes past the stated length are not read.
 pub fn block(parts: Parts, work: &mut [u8], bytes: &[u8]) -> Parts
@@ -153,7 +91,7 @@ pub fn open_in_blocks(
         (length (now (work .entry))) (now (body .entry)) ⌝ }
 {
     let most = if size == 0 { 1 } else { size };
-    let mut s = start(description, file_size, footer, body.len() as u64);
+    let mut s = parts_state::start(description, file_size, footer, body.len() as u64);
     let mut at: usize = 0;
     while at < body.len() {
         let end = at + least(most, body.len() - at);
@@ -197,44 +135,6 @@ fn which_of(number: u64) -> u64
     ensures { λ r. ⌜ r ≡ whichOf number ⌝ }
 {
     if number == Refusal::WORK { 0 } else { 1 }
-}
-
-fn begun(
-    description: Description,
-    number: u64,
-    place: u64,
-    which: u64,
-    tiles: u64,
-    domain: [u8; 64],
-    stated: u64,
-) -> Parts
-    ensures { λ r. ⌜ r ≡ begun description number place which tiles domain stated ⌝ }
-{
-    let cursor = Cursor {
-        number: number,
-        place: place,
-        which: which,
-        fanout: 0,
-        levels: 0,
-        level: 0,
-        counted: 0,
-        count: 0,
-        index: 0,
-        own: 0,
-        parents: 0,
-        done: 0,
-        kept: 0,
-        box_number: 0,
-        box_place: 0,
-    };
-    Parts {
-        description: description,
-        tiles: tiles,
-        domain: domain,
-        stated: stated,
-        cursor: cursor,
-        held: [0u8; 64],
-    }
 }
 
 fn with_cursor(parts: Parts, cursor: Cursor, held: [u8; 64]) -> Parts
@@ -667,7 +567,7 @@ fn check_boxes(
         let domain = parts.domain;
         let kinds = d.kinds;
         let outer = &domain[..box_bytes];
-        let told = boxes::check_row(bytes, kinds, d.dimensions, outer, Refusal::OUTSIDE_DOMAIN);
+        let told = rows::check_row(bytes, kinds, d.dimensions, outer, Refusal::OUTSIDE_DOMAIN);
         return placed(told, 16);
     }
     if cursor.fanout == 0 {
@@ -717,7 +617,7 @@ fn check_rows(
         let from = i * box_bytes;
         let here = &bytes[from..from + more * box_bytes];
         let outer = part(work, place, box_bytes);
-        let told = boxes::check_row(here, kinds, d.dimensions, outer, Refusal::OUTSIDE_PARENT);
+        let told = rows::check_row(here, kinds, d.dimensions, outer, Refusal::OUTSIDE_PARENT);
         if told.number != 0 {
             return Refusal::new(told.number, from as u64 + told.place);
         }

@@ -17,7 +17,7 @@ use Rattle.description.proofs.Limits.{Kept, kept}
 use Rattle.boxes.specs.declared.Window.{Window}
 use Rattle.boxes.specs.Boxes.{boxMeets, boxRead}
 use Rattle.boxes.specs.Windows.{windowRefusal}
-use Rattle.boxes.specs.Code.Carried.{windowEnds}
+use Rattle.windows.specs.Code.Carried.{windowEnds}
 use Rattle.boxes.proofs.ReadTo.{box-read-miss, box-read-all}
 use Rattle.query.specs.declared.BoxTest.{BoxTest}
 use Rattle.query.specs.declared.Tested.{Tested}

@@ -20,7 +20,7 @@ use Rattle.description.specs.Description.{sidesOf, boxBytes}
 use Rattle.description.proofs.Limits.{Kept, within, kept}
 use Rattle.boxes.specs.declared.Window.{Window}
 use Rattle.boxes.specs.Windows.{windowRefusal}
-use Rattle.boxes.specs.Code.Carried.{windowEnds}
+use Rattle.windows.specs.Code.Carried.{windowEnds}
 use Rattle.boxes.proofs.Boxes.{box-meets-around}
 use Rattle.tree.specs.Shape.{boxes, height, levels, bodyBytes, shapeOf}
 use Rattle.tree.specs.Walk.{Contained}

@@ -20,8 +20,8 @@ use Rattle.ranges.proofs.Reading.{fitted-same, read-meets-left, of-meets-right}
 use Rattle.boxes.specs.declared.Window.{Window}
 use Rattle.boxes.specs.Boxes.{rangeIn, boxMeets, boxRead}
 use Rattle.boxes.specs.Windows.{windowRefusal}
-use Rattle.boxes.specs.Code.Carried.{carriedSide, windowEnds, Fitting}
-use Rattle.boxes.proofs.Carrying.{fitted-lt, carried-low, carried-high}
+use Rattle.windows.specs.Code.Carried.{carriedSide, windowEnds, Fitting}
+use Rattle.windows.proofs.Carrying.{fitted-lt, carried-low, carried-high}
 use Rattle.boxes.proofs.ReadTo.{read-ext}
 use Rattle.boxes.proofs.Windows.{window-kind, window-number}
 use Rattle.query.specs.Code.Walking.{askedSide, meetsCarried, readCarried, Carries}

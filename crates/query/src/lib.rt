@@ -17,7 +17,7 @@ ghost use Rattle.order.specs.Little.{firstOfTwo, secondOfTwo};
 ghost use Rattle.description.specs.Kinds.{rangeBytes, isNan};
 ghost use Rattle.description.specs.Description.{sideStart};
 ghost use Rattle.ranges.specs.Ranges.{endsAt, fitted, rangeOf, rangeAt, hasNan, meets};
-ghost use Rattle.boxes.specs.Code.Carried.{carriedSide};
+ghost use Rattle.windows.specs.Code.Carried.{carriedSide};
 ghost use Rattle.rtree.specs.Opening.{Accepted};
 ghost use Rattle.query.specs.Query.{askedRefusal, refusedAnswer, queryAnswer, queryBuffer, flatCountOf};
 ghost use Rattle.query.specs.Query.{Lists, Bounded};
@@ -82,7 +82,7 @@ pub fn query(
         return refused(shaped.number, shaped.place);
     }
     let sides = window.sides;
-    let ends = boxes::window_ends(sides, description.dimensions);
+    let ends = windows::window_ends(sides, description.dimensions);
     let walk = walk_tree(description, shaped, body, &ends, out);
     Answer {
         number: 0,
@@ -111,7 +111,7 @@ pub fn box_test(description: Description, bytes: &[u8], window: Window) -> BoxTe
     let dimensions = description::sides_of(description.dimensions);
     let kinds = description.kinds;
     let sides = window.sides;
-    let ends = boxes::window_ends(sides, description.dimensions);
+    let ends = windows::window_ends(sides, description.dimensions);
     let tested = test_box(bytes, dimensions, kinds, &ends);
     BoxTest {
         number: 0,
@@ -128,7 +128,7 @@ fn check_box_test(description: Description, bytes: &[u8], window: Window) -> Ref
     let other = len != description.box_bytes();
     description
         .check()
-        .or(boxes::check_window(description, window))
+        .or(windows::check_window(description, window))
         .or(Refusal::when(other, Refusal::BYTES, len as u64))
 }
 
@@ -151,7 +151,7 @@ fn check_asked(description: Description, tiles: u64, window: Window) -> Refusal
     description
         .check()
         .or(Refusal::when(outside, Refusal::TILES, 0))
-        .or(boxes::check_window(description, window))
+        .or(windows::check_window(description, window))
 }
 
 // The walk of a tree that passed the check of its shape, by a window that passed its own.
@@ -346,7 +346,7 @@ fn test_side(bytes: &[u8], at: usize, kind: Kind, ends: &[u64; 8], i: usize, rea
     let range = range_in(bytes, at, kind);
     let asked = window_range(kind, ends[2 * i], ends[2 * i + 1]);
     Tested {
-        meets: range.meets(asked),
+        meets: comparisons::meets(range, asked),
         read: counted,
     }
 }
@@ -369,7 +369,7 @@ fn f32s_have_nan(bytes: &[u8]) -> bool
         || nanBits binary32 (secondOfTwo (now (bytes .entry)) 0 4)) ⌝ }
 {
     let ends = order::pair32_at(bytes, 0);
-    order::f32_nan_pattern(ends.low) || order::f32_nan_pattern(ends.high)
+    floats::f32_nan_pattern(ends.low) || floats::f32_nan_pattern(ends.high)
 }
 
 // Whether one of two float64 has a NaN's pattern. Their upper bytes tell it of nearly every number, so that all eight are
@@ -382,7 +382,7 @@ fn f64s_have_nan(bytes: &[u8]) -> bool
         return false;
     }
     let ends = order::pair64_at(bytes, 0);
-    order::f64_nan_pattern(ends.low) || order::f64_nan_pattern(ends.high)
+    floats::f64_nan_pattern(ends.low) || floats::f64_nan_pattern(ends.high)
 }
 
 // Whether the upper four bytes of a float64 are below those of an infinity, whatever the sign.
@@ -421,15 +421,11 @@ fn window_range(kind: Kind, low: u64, high: u64) -> Range
     ensures { λ r. ⌜ r ≡ rangeOf kind (fitted kind low) (fitted kind high) ⌝ }
 {
     match kind {
-        Kind::Float32 => Range::F32(f32::from_bits(lower(low)), f32::from_bits(lower(high))),
+        Kind::Float32 => Range::F32(
+            f32::from_bits(ints::low_four(low)),
+            f32::from_bits(ints::low_four(high)),
+        ),
         Kind::Float64 => Range::F64(f64::from_bits(low), f64::from_bits(high)),
         _ => Range::of(kind, low, high),
     }
-}
-
-// The lowest four bytes of a number.
-fn lower(p: u64) -> u32
-    ensures { λ r. ⌜ r ≡ p % 256 ^ 4 ⌝ }
-{
-    (p % 0x1_0000_0000) as u32
 }

@@ -1,13 +1,9 @@
-// A range of one dimension: read from bytes or made of patterns, in order, inside another, meeting another.
+// A range of one dimension: read from bytes or made of patterns, its kind and the patterns of its ends.
 use description::Kind;
 ghost use mathlib.Core.Path.{_≡_};
-ghost use mathlib.Core.Bool.{_&&_};
-ghost use Prim.Native.Nat.{_%_, _^_, _<_};
-ghost use lib.Ieee.{binary32, binary64, toBits};
-ghost use mir.Syntax.{w32, w64};
-ghost use mir.Val.{ofZ};
-ghost use Rattle.description.specs.Kinds.{endBytes, key, ordered, atMost};
-ghost use Rattle.ranges.specs.Ranges.{kindOf, endsOf, endsAt, fitted, rangeOf, rangeAt, inside, meets};
+ghost use Prim.Native.Nat.{_^_, _<_};
+ghost use Rattle.description.specs.Kinds.{endBytes};
+ghost use Rattle.ranges.specs.Ranges.{kindOf, endsOf, endsAt, fitted, rangeOf, rangeAt};
 
 // A minimum and a maximum, of one kind.
 pub enum Range {
@@ -44,19 +40,19 @@ impl Range {
         match kind {
             Kind::Int32 => {
                 let ends = order::pair32_at(bytes, at);
-                Range::I32(order::i32_of(ends.low), order::i32_of(ends.high))
+                Range::I32(ints::i32_of(ends.low), ints::i32_of(ends.high))
             }
             Kind::Int64 => {
                 let ends = order::pair64_at(bytes, at);
-                Range::I64(order::i64_of(ends.low), order::i64_of(ends.high))
+                Range::I64(ints::i64_of(ends.low), ints::i64_of(ends.high))
             }
             Kind::Float32 => {
                 let ends = order::pair32_at(bytes, at);
-                Range::F32(order::f32_of(ends.low), order::f32_of(ends.high))
+                Range::F32(floats::f32_of(ends.low), floats::f32_of(ends.high))
             }
             Kind::Float64 => {
                 let ends = order::pair64_at(bytes, at);
-                Range::F64(order::f64_of(ends.low), order::f64_of(ends.high))
+                Range::F64(floats::f64_of(ends.low), floats::f64_of(ends.high))
             }
             Kind::Uint64 => {
                 let ends = order::pair64_at(bytes, at);
@@ -70,10 +66,16 @@ impl Range {
         ensures { λ r. ⌜ r ≡ rangeOf kind (fitted kind low) (fitted kind high) ⌝ }
     {
         match kind {
-            Kind::Int32 => Range::I32(order::i32_of(lower(low)), order::i32_of(lower(high))),
-            Kind::Int64 => Range::I64(order::i64_of(low), order::i64_of(high)),
-            Kind::Float32 => Range::F32(order::f32_of(lower(low)), order::f32_of(lower(high))),
-            Kind::Float64 => Range::F64(order::f64_of(low), order::f64_of(high)),
+            Kind::Int32 => Range::I32(
+                ints::i32_of(ints::low_four(low)),
+                ints::i32_of(ints::low_four(high)),
+            ),
+            Kind::Int64 => Range::I64(ints::i64_of(low), ints::i64_of(high)),
+            Kind::Float32 => Range::F32(
+                floats::f32_of(ints::low_four(low)),
+                floats::f32_of(ints::low_four(high)),
+            ),
+            Kind::Float64 => Range::F64(floats::f64_of(low), floats::f64_of(high)),
             Kind::Uint64 => Range::U64(low, high),
         }
     }
@@ -84,93 +86,24 @@ impl Range {
     {
         match self {
             Range::I32(low, high) => Patterns {
-                low: order::i32_bits(low) as u64,
-                high: order::i32_bits(high) as u64,
+                low: ints::i32_bits(low) as u64,
+                high: ints::i32_bits(high) as u64,
             },
             Range::I64(low, high) => Patterns {
-                low: order::i64_bits(low),
-                high: order::i64_bits(high),
+                low: ints::i64_bits(low),
+                high: ints::i64_bits(high),
             },
             Range::F32(low, high) => Patterns {
-                low: order::f32_bits(low) as u64,
-                high: order::f32_bits(high) as u64,
+                low: floats::f32_bits(low) as u64,
+                high: floats::f32_bits(high) as u64,
             },
             Range::F64(low, high) => Patterns {
-                low: order::f64_bits(low),
-                high: order::f64_bits(high),
+                low: floats::f64_bits(low),
+                high: floats::f64_bits(high),
             },
             Range::U64(low, high) => Patterns {
                 low: low,
                 high: high,
-            },
-        }
-    }
-
-    // The minimum is at most the maximum, which no NaN is.
-    pub fn in_order(self) -> bool
-        ensures { λ r. ⌜ r ≡ atMost (ordered (kindOf self)) (endsOf self .low) (endsOf self .high) ⌝ }
-    {
-        match self {
-            Range::I32(low, high) => order::i32_at_most(low, high),
-            Range::I64(low, high) => order::i64_at_most(low, high),
-            Range::F32(low, high) => order::f32_at_most(low, high),
-            Range::F64(low, high) => order::f64_at_most(low, high),
-            Range::U64(low, high) => order::u64_at_most(low, high),
-        }
-    }
-
-    // Inside or equal. Of another kind it is not.
-    pub fn inside(self, outer: Range) -> bool
-        ensures { λ r. ⌜ r ≡ inside (endsOf self) (endsOf outer) ⌝ }
-    {
-        match self {
-            Range::I32(low, high) => match outer {
-                Range::I32(least, most) => i32s_in_order(least, low, high, most),
-                _ => false,
-            },
-            Range::I64(low, high) => match outer {
-                Range::I64(least, most) => i64s_in_order(least, low, high, most),
-                _ => false,
-            },
-            Range::F32(low, high) => match outer {
-                Range::F32(least, most) => f32s_in_order(least, low, high, most),
-                _ => false,
-            },
-            Range::F64(low, high) => match outer {
-                Range::F64(least, most) => f64s_in_order(least, low, high, most),
-                _ => false,
-            },
-            Range::U64(low, high) => match outer {
-                Range::U64(least, most) => u64s_in_order(least, low, high, most),
-                _ => false,
-            },
-        }
-    }
-
-    // Edges included. A range with NaN meets nothing, nor does one of another kind.
-    pub fn meets(self, window: Range) -> bool
-        ensures { λ r. ⌜ r ≡ meets (endsOf self) (endsOf window) ⌝ }
-    {
-        match self {
-            Range::I32(low, high) => match window {
-                Range::I32(least, most) => i32s_in_order(low, most, least, high),
-                _ => false,
-            },
-            Range::I64(low, high) => match window {
-                Range::I64(least, most) => i64s_in_order(low, most, least, high),
-                _ => false,
-            },
-            Range::F32(low, high) => match window {
-                Range::F32(least, most) => f32s_in_order(low, most, least, high),
-                _ => false,
-            },
-            Range::F64(low, high) => match window {
-                Range::F64(least, most) => f64s_in_order(low, most, least, high),
-                _ => false,
-            },
-            Range::U64(low, high) => match window {
-                Range::U64(least, most) => u64s_in_order(low, most, least, high),
-                _ => false,
             },
         }
     }
@@ -197,60 +130,4 @@ pub fn patterns_at(bytes: &[u8], at: usize, kind: Kind) -> Patterns
             }
         }
     }
-}
-
-// The key of an end's pattern, which is in the lowest bytes of a number: the order of a kind's ends is that of their
-// keys.
-pub fn key_of(kind: Kind, pattern: u64) -> u64
-    ensures { λ r. ⌜ r ≡ key kind (fitted kind pattern) ⌝ }
-{
-    match kind {
-        Kind::Int32 => order::i32_key(lower(pattern)) as u64,
-        Kind::Int64 => order::i64_key(pattern),
-        Kind::Float32 => order::f32_key(lower(pattern)) as u64,
-        Kind::Float64 => order::f64_key(pattern),
-        Kind::Uint64 => pattern,
-    }
-}
-
-// The lowest four bytes of a number.
-fn lower(p: u64) -> u32
-    ensures { λ r. ⌜ r ≡ p % 256 ^ 4 ⌝ }
-{
-    (p % 0x1_0000_0000) as u32
-}
-
-// Is a at most b, and c at most d?
-fn i32s_in_order(a: i32, b: i32, c: i32, d: i32) -> bool
-    ensures { λ r. ⌜ r ≡ (atMost (ordered Kind.Int32) (ofZ w32 a) (ofZ w32 b)
-        && atMost (ordered Kind.Int32) (ofZ w32 c) (ofZ w32 d)) ⌝ }
-{
-    order::i32_at_most(a, b) && order::i32_at_most(c, d)
-}
-
-fn i64s_in_order(a: i64, b: i64, c: i64, d: i64) -> bool
-    ensures { λ r. ⌜ r ≡ (atMost (ordered Kind.Int64) (ofZ w64 a) (ofZ w64 b)
-        && atMost (ordered Kind.Int64) (ofZ w64 c) (ofZ w64 d)) ⌝ }
-{
-    order::i64_at_most(a, b) && order::i64_at_most(c, d)
-}
-
-fn f32s_in_order(a: f32, b: f32, c: f32, d: f32) -> bool
-    ensures { λ r. ⌜ r ≡ (atMost (ordered Kind.Float32) (toBits binary32 a) (toBits binary32 b)
-        && atMost (ordered Kind.Float32) (toBits binary32 c) (toBits binary32 d)) ⌝ }
-{
-    order::f32_at_most(a, b) && order::f32_at_most(c, d)
-}
-
-fn f64s_in_order(a: f64, b: f64, c: f64, d: f64) -> bool
-    ensures { λ r. ⌜ r ≡ (atMost (ordered Kind.Float64) (toBits binary64 a) (toBits binary64 b)
-        && atMost (ordered Kind.Float64) (toBits binary64 c) (toBits binary64 d)) ⌝ }
-{
-    order::f64_at_most(a, b) && order::f64_at_most(c, d)
-}
-
-fn u64s_in_order(a: u64, b: u64, c: u64, d: u64) -> bool
-    ensures { λ r. ⌜ r ≡ (atMost (ordered Kind.Uint64) a b && atMost (ordered Kind.Uint64) c d) ⌝ }
-{
-    order::u64_at_most(a, b) && order::u64_at_most(c, d)
 }

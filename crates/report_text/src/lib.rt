@@ -127,7 +127,7 @@ fn open_and_query(
     if opened.number != 0 {
         return ended(false, opened.number, opened.place);
     }
-    let listed = lists::open_offsets(offsets, opened.tiles, asked.data_size);
+    let listed = entries::open_offsets(offsets, opened.tiles, asked.data_size);
     if listed.number != 0 {
         return ended(false, listed.number, listed.place);
     }
@@ -476,7 +476,7 @@ fn write_tile(
         (now (offsets .entry)) tile) (now (out .exit)) r) × (r ≤ at + 84) ⌝ }
 {
     let part = lists::extent_at(offsets, outcome.tiles, outcome.data_size, tile);
-    let cells = footer::cells_at(outcome.tiles, outcome.last_cells, outcome.capacity, tile);
+    let cells = cells::cells_at(outcome.tiles, outcome.last_cells, outcome.capacity, tile);
     write_row(tile, part.offset, part.extent, cells, from, out, at)
 }
 

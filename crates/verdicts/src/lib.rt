@@ -22,31 +22,31 @@ impl Verdict {
         ensures { λ r. ⌜ r ≡ verdict (endsOf range) range ⌝ }
     {
         match range {
-            Range::I32(low, high) => finite_verdict(range, order::i32_at_most(low, high)),
-            Range::I64(low, high) => finite_verdict(range, order::i64_at_most(low, high)),
+            Range::I32(low, high) => finite_verdict(range, ints::i32_at_most(low, high)),
+            Range::I64(low, high) => finite_verdict(range, ints::i64_at_most(low, high)),
             Range::F32(low, high) => {
-                if order::f32_finite_at_most(low, high) {
+                if floats::f32_finite_at_most(low, high) {
                     return Verdict::Sound(range);
                 }
                 other_verdict(
                     range,
-                    order::f32_at_most(low, high),
-                    order::f32_is_nan(low) || order::f32_is_nan(high),
-                    order::f32_is_infinite(low) || order::f32_is_infinite(high),
+                    floats::f32_at_most(low, high),
+                    floats::f32_is_nan(low) || floats::f32_is_nan(high),
+                    floats::f32_is_infinite(low) || floats::f32_is_infinite(high),
                 )
             }
             Range::F64(low, high) => {
-                if order::f64_finite_at_most(low, high) {
+                if floats::f64_finite_at_most(low, high) {
                     return Verdict::Sound(range);
                 }
                 other_verdict(
                     range,
-                    order::f64_at_most(low, high),
-                    order::f64_is_nan(low) || order::f64_is_nan(high),
-                    order::f64_is_infinite(low) || order::f64_is_infinite(high),
+                    floats::f64_at_most(low, high),
+                    floats::f64_is_nan(low) || floats::f64_is_nan(high),
+                    floats::f64_is_infinite(low) || floats::f64_is_infinite(high),
                 )
             }
-            Range::U64(low, high) => finite_verdict(range, order::u64_at_most(low, high)),
+            Range::U64(low, high) => finite_verdict(range, ints::u64_at_most(low, high)),
         }
     }
 

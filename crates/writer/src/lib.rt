@@ -232,15 +232,15 @@ fn least_f32(level: &[u8], box_bytes: usize, side: usize, first: usize, count: u
 {
     let mut at = first * box_bytes + side;
     let ends = ends_at(level, at, Kind::Float32);
-    let mut low = f32::from_bits(low_four(ends.low));
-    let mut high = f32::from_bits(low_four(ends.high));
+    let mut low = f32::from_bits(ints::low_four(ends.low));
+    let mut high = f32::from_bits(ints::low_four(ends.high));
     let last = first + count;
     let mut k = first + 1;
     while k < last {
         at += box_bytes;
         let next = ends_at(level, at, Kind::Float32);
-        low = lower_f32(low, f32::from_bits(low_four(next.low)));
-        high = higher_f32(high, f32::from_bits(low_four(next.high)));
+        low = lower_f32(low, f32::from_bits(ints::low_four(next.low)));
+        high = higher_f32(high, f32::from_bits(ints::low_four(next.high)));
         k += 1;
     }
     Patterns {
@@ -279,9 +279,9 @@ fn lower(kind: Kind, best: u64, next: u64) -> u64
     ensures { λ r. ⌜ r ≡ cond (ltb (key kind next) (key kind best)) next best ⌝ }
 {
     if let Kind::Int32 = kind {
-        return lower_i32(low_four(best), low_four(next)) as u64;
+        return lower_i32(ints::low_four(best), ints::low_four(next)) as u64;
     }
-    if ranges::key_of(kind, next) < ranges::key_of(kind, best) {
+    if keys::key_of(kind, next) < keys::key_of(kind, best) {
         return next;
     }
     best
@@ -293,9 +293,9 @@ fn higher(kind: Kind, best: u64, next: u64) -> u64
     ensures { λ r. ⌜ r ≡ cond (ltb (key kind best) (key kind next)) next best ⌝ }
 {
     if let Kind::Int32 = kind {
-        return higher_i32(low_four(best), low_four(next)) as u64;
+        return higher_i32(ints::low_four(best), ints::low_four(next)) as u64;
     }
-    if ranges::key_of(kind, best) < ranges::key_of(kind, next) {
+    if keys::key_of(kind, best) < keys::key_of(kind, next) {
         return next;
     }
     best
@@ -304,7 +304,7 @@ fn higher(kind: Kind, best: u64, next: u64) -> u64
 fn lower_i32(best: u32, next: u32) -> u32
     ensures { λ r. ⌜ r ≡ cond (ltb (signedKey w32 next) (signedKey w32 best)) next best ⌝ }
 {
-    if order::i32_key(next) < order::i32_key(best) {
+    if ints::i32_key(next) < ints::i32_key(best) {
         return next;
     }
     best
@@ -313,7 +313,7 @@ fn lower_i32(best: u32, next: u32) -> u32
 fn higher_i32(best: u32, next: u32) -> u32
     ensures { λ r. ⌜ r ≡ cond (ltb (signedKey w32 best) (signedKey w32 next)) next best ⌝ }
 {
-    if order::i32_key(best) < order::i32_key(next) {
+    if ints::i32_key(best) < ints::i32_key(next) {
         return next;
     }
     best
@@ -384,8 +384,8 @@ fn put_ends(out: &mut [u8], at: usize, kind: Kind, ends: Patterns)
         Kind::Int32 | Kind::Float32 => {
             put_pair32(
                 &mut out[at..at + 8],
-                low_four(ends.low),
-                low_four(ends.high),
+                ints::low_four(ends.low),
+                ints::low_four(ends.high),
             );
         }
         Kind::Int64 | Kind::Float64 | Kind::Uint64 => {
@@ -408,11 +408,4 @@ fn put_pair64(out: &mut [u8], low: u64, high: u64)
 {
     order::put_u64(out, 0, low);
     order::put_u64(out, 8, high);
-}
-
-// The lowest four bytes of a number.
-fn low_four(p: u64) -> u32
-    ensures { λ r. ⌜ r ≡ p % 256 ^ 4 ⌝ }
-{
-    (p % 0x1_0000_0000) as u32
 }

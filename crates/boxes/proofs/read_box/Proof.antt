@@ -8,7 +8,7 @@ use borrow.Author.Needs.{needs}
 use Rattle.description.specs.Description.{sideStart}
 use Rattle.boxes.specs.Boxes.{boxOf}
 use Rattle.description.proofs.Sides.{start-first}
-use Rattle.boxes.proofs.Walking.{next-place, place-fits, box-none, box-next}
+use Rattle.boxes.proofs.Walking.{next-place, place-fits, box-none, box-on}
 use Rattle.boxes.proofs.read_box.Statement.{statement}
 use Rattle.boxes.proofs.read_box.Tie as tie
 
@@ -48,8 +48,8 @@ loop-again c =
     let a = l .before .before .before .before .args in (
       omega (arith, d .before .loop-test),
       next-place _ _ _ (l .loop .inv .1) _ (c .range-bytes .ensures),
-      rw (l .loop .inv .2, c .before .read .ensures, l .loop .inv .1)
-          (box-next (a .t2) (a .bytes .now) (l .loop .i) (omega (arith, l .loop .inv, l .before .sides-of .ensures, d .before .loop-test))),
+      box-on (a .t2) (a .bytes .now) (l .loop .i) (omega (arith, l .loop .inv, l .before .sides-of .ensures, d .before .loop-test))
+          (l .loop .inv .1) (l .loop .inv .2) (c .before .read .ensures),
     )
 
 returns : tie.Need-returns Inv-loop μ-loop

@@ -12,9 +12,9 @@ use borrow.Author.Needs.{needs}
 use borrow.Author.Tests.{lt-ltb, ltb-true, eqb-true, eqb-false}
 use Rattle.description.specs.declared.Description.{Description}
 use Rattle.description.proofs.Tests.{both}
-use Rattle.parts.specs.Took.{Took, Begins}
+use Rattle.parts_state.specs.Took.{Took, Begins}
+use Rattle.parts_state.specs.Code.State.{Holds}
 use Rattle.parts.specs.Code.Cursor.{withCursor}
-use Rattle.parts.specs.Code.State.{Holds}
 use Rattle.parts.proofs.Lists.{read-first}
 use Rattle.parts.proofs.Prefix.{begins-got, begins-next, begins-length}
 use Rattle.parts.proofs.Ends.{late-tree, ends-past}

@@ -14,7 +14,7 @@ use Rattle.answers.proofs.Checks.{join-next, joined-first}
 use Rattle.description.specs.Limits.{mostTiles, leastFanout, mostFanout, outside}
 use Rattle.tree.specs.Shape.{mostBoxBytes, shapeOf}
 use Rattle.rtree.proofs.Passed.{small}
-use Rattle.parts.specs.Parts.{frontShown}
+use Rattle.parts_state.specs.Parts.{frontShown}
 use Rattle.parts.proofs.check_front.Statement.{statement}
 use Rattle.parts.proofs.check_front.Tie as tie
 
@@ -57,7 +57,10 @@ returns c =
     let i = o .before .before .before in
     let s = i .before in
     let x = s .before .args in
-    let when5 = rw (b4 .both4 .ensures, i .inner-boxes .ensures) at (c .before .when5 .ensures) in
+    let inner = x .box-bytes * (s .shape-of .result .boxes - x .tiles) in
+    let no-room : b4 .both4 .result ≡ (leb 4 (x .have) && ltb (x .room) inner) =
+    rw (← (i .inner-boxes .ensures)) (b4 .both4 .ensures) in
+    let when5 = rw no-room at (c .before .when5 .ensures) in
     let when4 = rw (b3 .both3 .ensures) at (c .before .before .before .when4 .ensures) in
     let when3 = rw (b2 .both2 .ensures) at (c .before .before .before .before .before .when3 .ensures) in
     let when2 = rw (b1 .both .ensures, o .outside .ensures) at (c .before .before .before .before .before .before .before .when2 .ensures) in

@@ -19,8 +19,8 @@ use Rattle.tree.specs.Shape.{mostBoxBytes}
 use Rattle.boxes.proofs.Moving.{moved, moved-clear, moved-some}
 use Rattle.opening.specs.Code.Stored.{Run}
 use Rattle.opening.proofs.Rows.{row-before}
-use Rattle.parts.specs.Code.Rest.{childCheck}
-use Rattle.parts.specs.Code.State.{mostWork}
+use Rattle.parts.specs.Code.Runs.{childCheck}
+use Rattle.parts.specs.Code.Steps.{mostWork}
 use Rattle.parts.proofs.Rows.{piece-said}
 use Rattle.parts.proofs.Runs.{some-bytes, most-bytes, most-boxes}
 use Rattle.parts.proofs.check_rows.Statement.{statement}

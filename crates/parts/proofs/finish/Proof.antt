@@ -7,7 +7,7 @@ use lib.ListN.{length}
 use lib.Seq.{take-length}
 use borrow.Author.Needs.{needs}
 use Rattle.answers.specs.Refusals as refusals
-use Rattle.parts.specs.Took.{Took}
+use Rattle.parts_state.specs.Took.{Took}
 use Rattle.parts.proofs.Ends.{ends-other, ends-fault, ends-accepted}
 use Rattle.parts.proofs.finish.Statement.{statement}
 use Rattle.parts.proofs.finish.Tie as tie

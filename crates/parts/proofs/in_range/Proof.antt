@@ -4,7 +4,7 @@ use mathlib.Core.Bool.{Bool, true, false}
 use Prim.Native.Nat.{ℕ}
 use native.Mathlib.Omega.{arith}
 use borrow.Author.Needs.{needs}
-use Rattle.parts.specs.Code.State.{InRange}
+use Rattle.parts.specs.Code.Steps.{InRange}
 use Rattle.parts.proofs.in_range.Statement.{statement}
 use Rattle.parts.proofs.in_range.Tie as tie
 

@@ -9,7 +9,7 @@ use lib.ListN.{length, take, drop}
 use lib.Seq.{take-add, take-length}
 use borrow.Author.Needs.{needs}
 use Rattle.description.specs.declared.Description.{Description}
-use Rattle.parts.specs.Took.{Took, Starts}
+use Rattle.parts_state.specs.Took.{Took, Starts}
 use Rattle.parts.proofs.open_in_blocks.Statement.{statement}
 use Rattle.parts.proofs.open_in_blocks.Tie as tie
 

@@ -10,8 +10,9 @@ use borrow.Author.Needs.{needs}
 use borrow.Author.Tests.{eq-eqb, ne-eqb, lt-ltb, ltb-true, ltb-false}
 use Rattle.description.specs.Description.{boxBytes}
 use Rattle.description.proofs.Tests.{both}
+use Rattle.parts_state.specs.Code.State.{itemBytes}
 use Rattle.parts.specs.Code.Cursor.{keeping}
-use Rattle.parts.specs.Code.State.{itemBytes, InRange, Some}
+use Rattle.parts.specs.Code.Steps.{InRange, Some}
 use Rattle.parts.proofs.Lists.{read-first}
 use Rattle.parts.proofs.Front.{is-tree, box-left}
 use Rattle.parts.proofs.Held.{fewer, item-most, from-size, whole-range, part-holds, stands}

@@ -11,9 +11,10 @@ use lib.ListN.{length, take, drop, length-drop}
 use borrow.Author.Needs.{needs}
 use borrow.Author.Tests.{not-true, not-false}
 use Rattle.description.specs.declared.Description.{Description}
-use Rattle.parts.specs.declared.Parts.{Parts}
+use Rattle.parts_state.specs.declared.Parts.{Parts}
+use Rattle.parts_state.specs.Code.State.{Going, Holds}
 use Rattle.parts.specs.Code.Cursor.{withCursor}
-use Rattle.parts.specs.Code.State.{InRange, SameRoom, Going, Holds, Reads, Takes, Some}
+use Rattle.parts.specs.Code.Steps.{InRange, SameRoom, Reads, Takes, Some}
 use Rattle.parts.proofs.Lists.{read-rest}
 use Rattle.parts.proofs.Front.{in-range}
 use Rattle.parts.proofs.Prefix.{rest-is}

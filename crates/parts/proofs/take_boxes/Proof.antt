@@ -10,7 +10,7 @@ use lib.Seq.{take-length}
 use borrow.Author.Needs.{needs}
 use Rattle.description.specs.Limits.{mostTiles}
 use Rattle.tree.specs.Shape.{mostBoxBytes}
-use Rattle.parts.specs.Code.State.{TakesRun}
+use Rattle.parts.specs.Code.Steps.{TakesRun}
 use Rattle.parts.proofs.Runs.{most-bytes, most-boxes, next-run, none-taken, more-taken}
 use Rattle.parts.proofs.take_boxes.Statement.{statement}
 use Rattle.parts.proofs.take_boxes.Tie as tie

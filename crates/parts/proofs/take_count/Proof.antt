@@ -11,8 +11,8 @@ use Rattle.tree.specs.declared.Shape.{Shape}
 use Rattle.tree.specs.Shape.{boxes}
 use Rattle.footer.specs.Fields.{tilesOf}
 use Rattle.rtree.specs.Body.{fanoutOf}
+use Rattle.parts_state.specs.Code.State.{Going}
 use Rattle.parts.specs.Code.Cursor.{withCursor}
-use Rattle.parts.specs.Code.State.{Going}
 use Rattle.parts.proofs.Front.{near-root, count-shaped, count-refused, count-passed}
 use Rattle.parts.proofs.take_count.Statement.{statement}
 use Rattle.parts.proofs.take_count.Tie as tie

@@ -9,8 +9,9 @@ use borrow.Author.Needs.{needs}
 use Rattle.description.specs.declared.Description.{Description}
 use Rattle.tree.specs.Shape.{levels, height}
 use Rattle.rtree.proofs.Passed.{box-bytes-most}
+use Rattle.parts_state.specs.Code.State.{Going}
 use Rattle.parts.specs.Code.Cursor.{withCursor}
-use Rattle.parts.specs.Code.State.{Going, Reads}
+use Rattle.parts.specs.Code.Steps.{Reads}
 use Rattle.parts.proofs.Front.{fanout-read, levels-read, front, front-said, front-refused, front-has, Fronted, front-passed}
 use Rattle.parts.proofs.take_front.Statement.{statement}
 use Rattle.parts.proofs.take_front.Tie as tie

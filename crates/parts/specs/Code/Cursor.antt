@@ -5,11 +5,9 @@ use Prim.Native.Nat.{ℕ, _-_}
 use mathlib.Core.Bool.{cond}
 use mathlib.Core.List.{List}
 use lib.Dec.{eqb, ltb}
-use lib.ListN.{replicate}
 use Rattle.answers.specs.declared.Refusal.{Refusal}
-use Rattle.description.specs.declared.Description.{Description}
-use Rattle.parts.specs.declared.Cursor.{Cursor}
-use Rattle.parts.specs.declared.Parts.{Parts}
+use Rattle.parts_state.specs.declared.Cursor.{Cursor}
+use Rattle.parts_state.specs.declared.Parts.{Parts}
 
 -- a state with other bytes held and other numbers
 abbrev pub withCursor : Parts → List ℕ → Cursor → Parts
@@ -25,32 +23,6 @@ withCursor s held c = record {
 -- with other numbers alone
 abbrev pub onward : Parts → Cursor → Parts
 onward s c = withCursor s (s .held) c
-
-abbrev pub begun : Description → ℕ → ℕ → ℕ → ℕ → List ℕ → ℕ → Parts
-begun d number place which tiles domain stated = record {
-  description = d;
-  tiles = tiles;
-  domain = domain;
-  stated = stated;
-  cursor = record {
-    number = number;
-    place = place;
-    which = which;
-    fanout = 0;
-    levels = 0;
-    level = 0;
-    counted = 0;
-    count = 0;
-    index = 0;
-    own = 0;
-    parents = 0;
-    done = 0;
-    kept = 0;
-    «box_number» = 0;
-    «box_place» = 0;
-  };
-  held = replicate 64 0;
-}
 
 abbrev pub refused : Cursor → ℕ → ℕ → ℕ → Cursor
 refused c which number place = record {

@@ -28,13 +28,13 @@ float-from-bits-t6 : tie.Need-float-from-bits-t6
 float-from-bits-t6 c =
     let t = c .before in
     let g = t .before .before in
-    no-nan binary32 _ (number32 (g .args .kind) (g .args .low) (t .enum-told .given .1) (g .pre .0) (c .lower .ensures))
+    no-nan binary32 _ (number32 (g .args .kind) (g .args .low) (t .enum-told .given .1) (g .pre .0) (c .low-four .ensures))
 
 float-from-bits-t8 : tie.Need-float-from-bits-t8
 float-from-bits-t8 c =
     let t = c .before .before in
     let g = t .before .before in
-    no-nan binary32 _ (number32 (g .args .kind) (g .args .high) (t .enum-told .given .1) (g .pre .1) (c .lower2 .ensures))
+    no-nan binary32 _ (number32 (g .args .kind) (g .args .high) (t .enum-told .given .1) (g .pre .1) (c .low-four2 .ensures))
 
 float-from-bits-t9 : tie.Need-float-from-bits-t9
 float-from-bits-t9 c =
@@ -50,8 +50,8 @@ returns : tie.Need-returns
 returns c =
     let t = c .before .before in
     let g = t .before .before in
-    let low = ap (ofBits binary32) (c .before .lower .ensures) in
-    let high = ap (ofBits binary32) (c .lower2 .ensures) in
+    let low = ap (ofBits binary32) (c .before .low-four .ensures) in
+    let high = ap (ofBits binary32) (c .low-four2 .ensures) in
     when-known (λ k. rangeOf k (fitted k (g .args .low)) (fitted k (g .args .high))) (t .enum-told .given .1) (λ i. F32 (low i) (high i))
 
 returns-2 : tie.Need-returns-2

@@ -11,7 +11,7 @@ use Rattle.description.specs.Limits.{Sizes}
 use Rattle.description.specs.Description.{kindAt, sideStart, sidesOf, boxBytes}
 use Rattle.ranges.specs.Ranges.{Ends, hasNan, meets}
 use Rattle.boxes.specs.Boxes.{all, readTo, sideAt}
-use Rattle.boxes.specs.Code.Carried.{carriedSide}
+use Rattle.windows.specs.Code.Carried.{carriedSide}
 use Rattle.tree.specs.Shape.{boxes, children, height, levelStart, bodyBytes, shapeOf}
 use Rattle.tree.specs.Code.Run.{State, look, run}
 use Rattle.rtree.specs.declared.Shaped.{Shaped}

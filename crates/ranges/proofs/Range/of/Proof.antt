@@ -14,8 +14,8 @@ use Rattle.ranges.proofs.Range.of.Tie as tie
 returns : tie.Need-returns
 returns c =
     let t = c .before .before .before .before in
-    let low = int-held w32 (c .before .before .i32-of .result) (c .before .before .i32-of .ok) (c .before .before .i32-of .ensures) (c .before .before .before .lower .ensures) in
-    let high = int-held w32 (c .i32-of2 .result) (c .i32-of2 .ok) (c .i32-of2 .ensures) (c .before .lower2 .ensures) in
+    let low = int-held w32 (c .before .before .i32-of .result) (c .before .before .i32-of .ok) (c .before .before .i32-of .ensures) (c .before .before .before .low-four .ensures) in
+    let high = int-held w32 (c .i32-of2 .result) (c .i32-of2 .ok) (c .i32-of2 .ensures) (c .before .low-four2 .ensures) in
     when-known (λ k. rangeOf k (fitted k (t .before .before .args .low)) (fitted k (t .before .before .args .high))) (t .enum-told .given .1) (λ i. I32 (low i) (high i))
 
 returns-2 : tie.Need-returns-2
@@ -29,8 +29,8 @@ returns-2 c =
 returns-3 : tie.Need-returns-3
 returns-3 c =
     let t = c .before .before .before .before in
-    let low = c .before .before .f32-of .ensures ∙ ap (ofBits binary32) (c .before .before .before .lower3 .ensures) in
-    let high = c .f32-of2 .ensures ∙ ap (ofBits binary32) (c .before .lower4 .ensures) in
+    let low = c .before .before .f32-of .ensures ∙ ap (ofBits binary32) (c .before .before .before .low-four3 .ensures) in
+    let high = c .f32-of2 .ensures ∙ ap (ofBits binary32) (c .before .low-four4 .ensures) in
     when-known (λ k. rangeOf k (fitted k (t .before .before .args .low)) (fitted k (t .before .before .args .high))) (t .enum-told3 .given .1) (λ i. F32 (low i) (high i))
 
 returns-4 : tie.Need-returns-4

@@ -1,0 +1,2 @@
+-- Laws that more than one proof of this crate cites, or that stand beside a long one.
+pub mod SchemaName

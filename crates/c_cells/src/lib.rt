@@ -1,0 +1,62 @@
+// A footer's schema name and the cells of its tiles, as exported functions on numbers and slices.
+// include/tussockbell.h declares them for C.
+ghost use mathlib.Core.Path.{_≡_};
+ghost use lib.ListN.{getD, take, drop};
+ghost use Rattle.footer.specs.Answer.{checkedAnswer, schemaName, tileCells, allCells};
+ghost use Rattle.c_arguments.specs.Described.{describe};
+ghost use Rattle.c_cells.specs.Places.{namePlaces};
+
+// Where the schema name stands in the lent footer.
+#[no_mangle]
+pub extern "C" fn tussockbell_schema_name(
+    kinds: &[u8],
+    fields: u64,
+    capacity: u64,
+    file_size: u64,
+    footer: &[u8],
+    answer: &mut [u64; 2],
+)
+    ensures places { λ _. ⌜ now (answer .exit) ≡ namePlaces (describe (now (kinds .entry)) fields capacity)
+        (now (footer .entry)) (checkedAnswer (describe (now (kinds .entry)) fields capacity) «file_size»
+        (now (footer .entry))) ⌝ }
+    ensures name { λ _. ⌜ take (getD (now (answer .exit)) 1 0) (drop (getD (now (answer .exit)) 0 0)
+        (now (footer .entry)))
+        ≡ schemaName (describe (now (kinds .entry)) fields capacity) «file_size» (now (footer .entry)) ⌝ }
+{
+    let d = c_arguments::describe(kinds, fields, capacity);
+    let r = footer::check(d, file_size, footer);
+    let start = c_arguments::or_zero(r.number == 0, 12);
+    *answer = [start, r.name_size];
+}
+
+// The cells of a tile.
+#[no_mangle]
+pub extern "C" fn tussockbell_cells(
+    kinds: &[u8],
+    fields: u64,
+    capacity: u64,
+    file_size: u64,
+    footer: &[u8],
+    tile: u64,
+) -> u64
+    ensures { λ r. ⌜ r ≡ tileCells
+        (describe (now (kinds .entry)) fields capacity) «file_size» (now (footer .entry)) tile ⌝ }
+{
+    let d = c_arguments::describe(kinds, fields, capacity);
+    cells::tile_cells(d, file_size, footer, tile)
+}
+
+// The cells of all tiles.
+#[no_mangle]
+pub extern "C" fn tussockbell_total_cells(
+    kinds: &[u8],
+    fields: u64,
+    capacity: u64,
+    file_size: u64,
+    footer: &[u8],
+) -> u64
+    ensures { λ r. ⌜ r ≡ allCells (describe (now (kinds .entry)) fields capacity) «file_size» (now (footer .entry)) ⌝ }
+{
+    let d = c_arguments::describe(kinds, fields, capacity);
+    cells::total_cells(d, file_size, footer)
+}

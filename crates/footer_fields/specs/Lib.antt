@@ -1,0 +1,2 @@
+-- What the contracts of private functions cite; those of public ones cite the crate `footer`.
+pub mod Code

@@ -1,0 +1,3 @@
+-- What only the code goes by: nothing here is promised to a user of the library.
+pub mod Rest
+pub mod State
