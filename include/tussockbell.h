@@ -257,7 +257,8 @@ void tussockbell_open(const uint8_t *kinds, size_t kinds_length, uint64_t fields
  * footer and all bytes received, however these were cut, and keep no byte of a block but those of a number or a box that
  * has come in part. State and work buffer must come back at each call as the last one left them, the buffer with the same
  * length; what it holds at the first call does not matter. With any other state or buffer nothing is promised but that
- * nothing outside of them is written and nothing outside of what is lent is read.
+ * nothing outside of them is written and nothing outside of what is lent is read. Work buffer, state, answer and block
+ * do not overlap one another.
  *
  * A start takes the footer and the stated length of the tree. */
 void tussockbell_parts_start(const uint8_t *kinds, size_t kinds_length, uint64_t fields, uint64_t capacity, uint64_t file_size,

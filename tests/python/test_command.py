@@ -43,9 +43,12 @@ class Query(unittest.TestCase):
 
     def failed(self, part, *words):
         """Exit status 2, nothing on standard output, and a line that names what is at fault."""
-        status, said, failed = run(*words)
+        self.one_line(part, *run(*words))
+
+    def one_line(self, part, status, said, failed):
         self.assertEqual((status, said), (2, ""))
         self.assertIn(part, failed)
+        self.assertRegex(failed, r"\Atussockbell: .*\n\Z")
 
     def test_sample(self):
         expected = "tiles\t3\tfound\t2\tlooked\t6\n1\t100\t150\t32\n2\t250\t50\t5\n"
@@ -113,6 +116,99 @@ class Query(unittest.TestCase):
             words = [sys.executable, "-m", "tussockbell", "query", *map(str, [*ASKED, "--window", "12:21", *SAMPLE])]
             done = subprocess.run(words, stdout=full, stderr=subprocess.PIPE, text=True)
         self.assertEqual((done.returncode, done.stderr), (2, "tussockbell: standard output: No space left on device\n"))
+        with open("/dev/full", "w") as full:
+            words = [sys.executable, "-m", "tussockbell", "--help"]
+            done = subprocess.run(words, stdout=full, stderr=subprocess.PIPE, text=True)
+        self.assertEqual((done.returncode, done.stderr), (2, "tussockbell: standard output: No space left on device\n"))
+
+    def in_shell(self, line, *words):
+        """What a line of the shell says in which "$@" is the command."""
+        command = ["bash", "-c", line, "bash", sys.executable, "-W", "error", "-m", "tussockbell", *map(str, words)]
+        done = subprocess.run(command, capture_output=True, text=True, timeout=60)
+        return done.returncode, done.stdout, done.stderr
+
+    def test_closed_output(self):
+        asked = ["query", *ASKED, "--window", "12:21", *SAMPLE]
+        self.one_line("standard output: closed", *self.in_shell('"$@" >&-', *asked))
+        for words in (["--help"], ["--version"], ["plot", "--help"]):
+            self.one_line("standard output: closed", *self.in_shell('"$@" >&-', *words))
+        refused = ["query", *ASKED, "--window", "21:12", *SAMPLE]
+        status, said, failed = self.in_shell('"$@" >&-', *refused)
+        self.assertEqual((status, said, failed), (1, "", "tussockbell: refused 9 at 0: minimum above maximum\n"))
+        for closed in ("2>&-", ">&- 2>&-", "2>/dev/full"):
+            self.assertEqual(self.in_shell(f'"$@" {closed}', *refused), (1, "", ""))
+            self.assertEqual(self.in_shell(f'"$@" {closed}', *asked[:-1], "/nonexistent"), (2, "", ""))
+            self.assertEqual(self.in_shell(f'"$@" {closed}', "ask"), (2, "", ""))
+
+    def test_a_reader_that_has_gone(self):
+        for words in (["query", *ASKED, "--window", "12:21", *SAMPLE], ["--help"]):
+            reading, writing = os.pipe()
+            os.close(reading)
+            command = [sys.executable, "-W", "error", "-m", "tussockbell", *map(str, words)]
+            done = subprocess.run(command, stdout=writing, stderr=subprocess.PIPE, text=True)
+            os.close(writing)
+            self.assertEqual((done.returncode, done.stderr), (2, ""))
+        status, said, failed = self.in_shell('"$@" | head -n 1', "query", *ASKED, "--window", "12:21", *SAMPLE)
+        self.assertEqual((status, said, failed), (0, "tiles\t3\tfound\t2\tlooked\t6\n", ""))
+
+    def test_devices(self):
+        for device in ("/dev/zero", "/dev/null", "/dev/random"):
+            for i in range(3):
+                files = [*SAMPLE[:i], device, *SAMPLE[i + 1 :]]
+                asked = ["query", *ASKED, "--window", "12:21", *files]
+                self.one_line(f"{device}: a character device", *self.in_shell('"$@"', *asked))
+
+    def test_pipes(self):
+        asked = ["query", *ASKED, "--window", "12:21"]
+        expected = "tiles\t3\tfound\t2\tlooked\t6\n1\t100\t150\t32\n2\t250\t50\t5\n"
+        pipes = " ".join(f"<(cat '{path}')" for path in SAMPLE)
+        self.assertEqual(self.in_shell(f'"$@" {pipes}', *asked), (0, expected, ""))
+        got = self.in_shell(f"cat '{SAMPLE[1]}' | \"$@\"", *asked, SAMPLE[0], "/dev/stdin", SAMPLE[2])
+        self.assertEqual(got, (0, expected, ""))
+        got = self.in_shell(f'"$@" <(true) {" ".join(map(str, SAMPLE[1:]))}', *asked)
+        self.assertEqual(got, (1, "", "tussockbell: refused 2 at 0: byte count or length field wrong\n"))
+
+    def test_a_pipe_is_read_up_to_the_largest_body(self):
+        """Which has 8 + 8L + B times all boxes, of 2^24 tiles in pairs and four dimensions of 8 bytes an end."""
+        most = 8 + 8 * 25 + 64 * (2**25 - 1)
+        words = ["query", *ASKED, "--window", "12:21", SAMPLE[0], "/dev/stdin", SAMPLE[2]]
+        code = "import sys, tussockbell.__main__ as m; assert m._most_bytes() == int(sys.argv[1])\n"
+        code += "m._most_bytes = lambda: int(sys.argv[2])\nsys.exit(m.main(sys.argv[3:]))"
+        for limit, expected in ((80, 0), (79, 2)):
+            with open(SAMPLE[1], "rb") as tree:
+                cat = subprocess.Popen(["cat"], stdin=tree, stdout=subprocess.PIPE)
+                command = [sys.executable, "-W", "error", "-c", code, str(most), str(limit), *map(str, words)]
+                done = subprocess.run(command, stdin=cat.stdout, capture_output=True, text=True)
+                cat.stdout.close()
+                cat.wait()
+            self.assertEqual(done.returncode, expected, msg=done.stderr)
+            if expected:
+                self.one_line("more than 79 bytes", done.returncode, done.stdout, done.stderr)
+        with subprocess.Popen(["cat", "/dev/zero"], stdout=subprocess.PIPE) as endless:
+            command = [sys.executable, "-W", "error", "-c", code, str(most), str(2**22), *map(str, words)]
+            done = subprocess.run(command, stdin=endless.stdout, capture_output=True, text=True, timeout=60)
+            endless.stdout.close()
+        self.one_line("/dev/stdin: more than 4194304 bytes", done.returncode, done.stdout, done.stderr)
+
+    def test_files_are_mapped(self):
+        """One of 8 GiB, nearly all a hole, is refused by its length and takes no memory; an empty one has no bytes."""
+        with tempfile.TemporaryDirectory() as folder:
+            large, empty = pathlib.Path(folder, "large"), pathlib.Path(folder, "empty")
+            empty.write_bytes(b"")
+            with open(large, "wb") as file:
+                file.write(SAMPLE[1].read_bytes())
+                file.truncate(2**33)
+            asked = ["query", *ASKED, "--window", "12:21"]
+            for file, place in ((large, 2**33), (empty, 0)):
+                status, said, failed = self.in_shell('ulimit -d 1048576; "$@"', *asked, SAMPLE[0], file, SAMPLE[2])
+                self.assertEqual((status, said), (1, ""))
+                self.assertIn(f"refused 2 at {place} of the second byte string", failed)
+
+    def test_no_library(self):
+        variables = {**os.environ, "TUSSOCKBELL_LIBRARY": "/nonexistent"}
+        self.one_line("make lib", *run("query", *ASKED, "--window", "12:21", *SAMPLE, env=variables))
+        status, _, failed = run("--help", env=variables)
+        self.assertEqual((status, failed), (0, ""))
 
     def test_help(self):
         for words in (["--help"], ["query", "--help"], ["plot", "--help"]):
@@ -171,6 +267,39 @@ class Plot(unittest.TestCase):
             self.assertEqual((status, said), (2, ""))
             self.assertIn("axes", failed)
 
+    def plot_ends(self, boxes, window, kind="float64"):
+        """The picture of a tree of two dimensions, with every number in it looked at."""
+        known = rules.Description([kind] * 2, 1, 32)
+        made = pieces.Footer(known, pieces.around(boxes), tiles=len(boxes), last_cells=9)
+        (self.folder / "footer").write_bytes(made.data())
+        (self.folder / "tree").write_bytes(pieces.tree([kind] * 2, boxes, 4))
+        words = [*options([kind] * 2, 1, 32, made.file_size), "--window", window, "--out", self.folder / "a.svg"]
+        self.assertEqual(run("plot", *words, self.folder / "footer", self.folder / "tree"), (0, "", ""))
+        picture, classes = self.classes()
+        for line in (*picture.iter(SVG + "rect"), *picture.iter(SVG + "line"), *picture.iter(SVG + "text")):
+            for name in ("x", "y", "width", "height", "x1", "x2", "y1", "y2"):
+                if line.get(name) is not None:
+                    self.assertTrue(0 <= float(line.get(name)) <= 760, msg=line.attrib)
+        return classes
+
+    def test_ends_of_any_size(self):
+        """Near the largest float64 and the smallest, alike, next to each other; and windows past what a float holds."""
+        most, next_, least = sys.float_info.max, 1.7976931348623155e308, 5e-324
+        for low, high in (
+            (-most, most), (most, most), (-most, -most), (next_, most), (-1.0, most), (-most, 0.0), (1e308, 1.5e308),
+            (1e300, 2e300), (-1e299, 1e299), (2.0**53, 2.0**53 + 2), (1.0, 1.0000000000000002), (0.0, 0.0),
+            (0.0, least), (-least, least), (0.0, 40 * least), (least, 1e-310),
+        ):
+            open_, own = "-inf:inf,-inf:inf", f"{low!r}:{high!r},{low!r}:{high!r}"
+            for window in (open_, own, f"-{10**400}:{10**400},{low!r}:inf"):
+                classes = self.plot_ends([[(low, high), (low, high)], [(high, high), (low, low)]], window)
+                self.assertEqual(classes.count("tile touched") + classes.count("tile"), 2)
+                self.assertGreaterEqual(classes.count("tile touched"), 1)
+        last = 2**64 - 1
+        for kind, low, high in (("int64", -(2**63), 2**63 - 1), ("uint64", 0, last), ("uint64", last, last)):
+            classes = self.plot_ends([[(low, high), (low, high)]], f"{low}:{high},{low}:{high}", kind)
+            self.assertEqual(classes.count("tile touched"), 1)
+
     def test_refused_and_failed(self):
         status, _, failed = self.plot("9:0,0:5,0:9")
         self.assertEqual((status, failed.split(":")[1]), (1, " refused 9 at 0"))
@@ -178,6 +307,8 @@ class Plot(unittest.TestCase):
         status, _, failed = self.plot("0:9,0:5,0:9", out="none/a.svg")
         self.assertEqual(status, 2)
         self.assertIn("No such file", failed)
+        status, _, failed = self.plot("0:9,0:5,0:9", out="/dev/full")
+        self.assertEqual((status, failed), (2, "tussockbell: /dev/full: No space left on device\n"))
         words = [*options(["int32"], 1, 32, 1166), "--window", "1:2", "--out", self.folder / "b.svg", *SAMPLE[:2]]
         status, _, failed = run("plot", *words)
         self.assertEqual((status, failed), (2, "tussockbell: a tree of one dimension has no such picture\n"))

@@ -1,9 +1,13 @@
 """Trees in parts through the Python binding, against the reference: every cut, lengths and work buffers around the right ones."""
 
+import ctypes
+import mmap
 import pathlib
 import random
 import sys
+import threading
 import unittest
+from unittest import mock
 
 root = pathlib.Path(__file__).resolve().parents[2]
 sys.path.insert(0, str(root / "tests/reference"))
@@ -103,6 +107,115 @@ class Buffers(unittest.TestCase):
 
     def test_a_refused_footer_stays(self):
         self.assertEqual(said(ONE, FILE, SAMPLE["footer"][:-1], 80, [SAMPLE["tree"]]), (2, len(SAMPLE["footer"]) - 1, 0))
+
+
+class Failures(unittest.TestCase):
+    """A call that fails drops nothing unseen: every later one says so."""
+
+    def broken(self, parts):
+        for _ in range(2):
+            for call in (lambda: parts.write(SAMPLE["tree"]), lambda: parts.write(b""), parts.finish):
+                with self.assertRaises(RuntimeError) as caught:
+                    call()
+                self.assertIn("failed", str(caught.exception))
+
+    def test_a_finish_that_was_interrupted(self):
+        for whole in (b"", SAMPLE["tree"][:5], SAMPLE["tree"]):
+            parts = tb.TreeParts(ONE, FILE, SAMPLE["footer"], 80)
+            parts.write(whole)
+            with mock.patch.object(tb, "_c_parts_finish", side_effect=KeyboardInterrupt):
+                self.assertRaises(KeyboardInterrupt, parts.finish)
+            self.broken(parts)
+
+    def test_no_memory_for_the_work_buffer(self):
+        for blocks in ([SAMPLE["tree"]], [SAMPLE["tree"][:3], SAMPLE["tree"][3:20]]):
+            parts = tb.TreeParts(ONE, FILE, SAMPLE["footer"], 80)
+            with mock.patch.object(tb, "_inner_bytes", side_effect=MemoryError):
+                for block in blocks[:-1]:
+                    parts.write(block)
+                self.assertRaises(MemoryError, parts.write, blocks[-1])
+            self.broken(parts)
+        parts = tb.TreeParts(ONE, FILE, SAMPLE["footer"], 80)
+        with mock.patch.object(tb, "_inner_bytes", side_effect=MemoryError):
+            self.assertRaises(MemoryError, parts.finish)
+        self.broken(parts)
+
+    def test_a_block_that_was_interrupted(self):
+        parts = tb.TreeParts(ONE, FILE, SAMPLE["footer"], 80, bytearray(24))
+        with mock.patch.object(tb, "_c_parts_block", side_effect=KeyboardInterrupt):
+            self.assertRaises(KeyboardInterrupt, parts.write, SAMPLE["tree"][:40])
+        self.broken(parts)
+
+    def test_what_is_no_block(self):
+        for wrong in (5, "text", None, [1]):
+            parts = tb.TreeParts(ONE, FILE, SAMPLE["footer"], 80)
+            self.assertRaises(TypeError, parts.write, wrong)
+            self.broken(parts)
+
+    def test_a_write_after_the_finish_changes_nothing(self):
+        parts = tb.TreeParts(ONE, FILE, SAMPLE["footer"], 80)
+        parts.write(SAMPLE["tree"])
+        self.assertEqual(parts.finish(), (3, 2, 3))
+        self.assertRaises(ValueError, parts.write, b"")
+        self.assertEqual(parts.finish(), (3, 2, 3))
+
+    def test_two_threads_at_once(self):
+        parts, real = tb.TreeParts(ONE, FILE, SAMPLE["footer"], 80, bytearray(24)), tb._c_parts_block
+        threads, said = [], []
+
+        def other():
+            try:
+                parts.write(SAMPLE["tree"])
+            except RuntimeError as error:
+                said.append(str(error))
+
+        def block(*arguments):
+            if not threads:
+                threads.append(threading.Thread(target=other))
+                threads[0].start()
+                threads[0].join()
+            real(*arguments)
+
+        with mock.patch.object(tb, "_c_parts_block", block):
+            parts.write(SAMPLE["tree"])
+        self.assertEqual((len(said), parts.finish()), (1, (3, 2, 3)))
+        self.assertIn("another thread", said[0])
+        self.assertIn("for one thread at a time", tb.TreeParts.__doc__)
+
+
+class Overlaps(unittest.TestCase):
+    def overlapping(self, work, block):
+        parts, before = tb.TreeParts(ONE, FILE, SAMPLE["footer"], 80, work), bytes(work)
+        self.assertRaises(ValueError, parts.write, block)
+        self.assertEqual(bytes(work), before)
+        self.assertRaises(RuntimeError, parts.finish)
+
+    def test_blocks_and_work_buffers(self):
+        with mmap.mmap(-1, 4096) as mapped:
+            for memory in (bytearray(300), mapped):
+                with memoryview(memory) as whole:
+                    work = whole[100:140]
+                    whole[:80] = SAMPLE["tree"]
+                    for start, end in ((100, 140), (0, 101), (60, 120), (139, 219), (110, 111), (0, 300)):
+                        with whole[start:end] as block:
+                            self.overlapping(work, block)
+                    for start, end in ((20, 100), (140, 220), (100, 100), (120, 120)):
+                        with whole[start:end] as block:
+                            tb.TreeParts(ONE, FILE, SAMPLE["footer"], 80, work).write(block)
+                    parts = tb.TreeParts(ONE, FILE, SAMPLE["footer"], 80, work)
+                    with whole[:80] as block:
+                        parts.write(block)
+                    self.assertEqual(parts.finish(), (3, 2, 3))
+                    del parts
+                    work.release()
+
+    def test_items_of_any_format(self):
+        """A block, or a work buffer, whose items are numbers of C."""
+        block = (ctypes.c_uint64 * 10).from_buffer_copy(SAMPLE["tree"])
+        for work in (None, (ctypes.c_uint64 * 3)(), ((ctypes.c_uint32 * 2) * 3)()):
+            self.assertEqual(said(ONE, FILE, SAMPLE["footer"], 80, [block], work), (3, 2, 3))
+        work = (ctypes.c_uint64 * 10).from_buffer_copy(SAMPLE["tree"])
+        self.overlapping(work, work)
 
 
 class Drawn(unittest.TestCase):

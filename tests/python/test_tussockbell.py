@@ -36,7 +36,7 @@ SAMPLE_SIZE, SAMPLE_DATA_SIZE = 1166, 300
 ONE = tb.Description(["int32"], fields=1, capacity=32)
 NUMBERS = [f.name for f in dataclasses.fields(tb.Footer) if not f.name.startswith("_")]
 NO_KINDS = ["int8", "uint32", "Int32", "", 4, 7, 9, 11, 300, -1, 10**30, 1.5, None, [], b"int32", int, object()]
-BAD_KINDS = [[], ["int32"] * 5, ["int32"] * 300, "int32"] + [[kind] for kind in NO_KINDS] + [["int32", "int"]]
+BAD_KINDS = [[], ["int32"] * 5, ["int32"] * 300] + [[kind] for kind in NO_KINDS] + [["int32", "int"]]
 BAD_DESCRIPTIONS = [tb.Description(kinds, 1, 32) for kinds in BAD_KINDS]
 BAD_DESCRIPTIONS += [tb.Description(["int32"], fields, 32) for fields in (0, 65, -1, 2**70, MOST, 2**64 + 1)]
 BAD_DESCRIPTIONS += [tb.Description(["int32"], 1, capacity) for capacity in (0, 10**9 + 1, -1, 10**30, MOST, 2**64 + 32)]
@@ -470,9 +470,19 @@ class Batches(Same):
         own = ((ctypes.c_double * 4) * 32).from_buffer_copy(data)
         forms = [bytearray(data), memoryview(data), array.array("d", data), doubles, shaped, own, (ctypes.c_ubyte * len(data)).from_buffer_copy(data)]
         apart = memoryview(bytes(x for byte in data for x in (byte, 0)))[::2]
+        forms += [memoryview(data).cast("d", shape=[32, 4]), memoryview(data).cast("c")]
+        forms += [((ctypes.c_double * 2) * 2 * 32).from_buffer_copy(data)]
         for form in [data, *forms, apart]:
             self.assertEqual(tb.query_batch(f.given, f.n, f.tree, form), expected)
-        for form in (array.array("f", [0.0] * 8), array.array("q", [0] * 4), array.array("i", [0] * 8), memoryview(data).cast("Q")):
+        wrong = [array.array("f", [0.0] * 8), array.array("q", [0] * 4), array.array("i", [0] * 8)]
+        wrong += [memoryview(data).cast(letter) for letter in "Qb"]
+        wrong += [memoryview(data).cast(letter, shape=[32, 32]) for letter in "Bc"]
+        shapes = [2, 32, 2], [4, 32], [64, 2], [16, 8], [32, 2, 2, 1], [128, 1]
+        wrong += [memoryview(data).cast("d", shape=shape) for shape in shapes]
+        other = ctypes.c_double.__ctype_be__ * 128, ctypes.c_int8 * 1024
+        wrong += [one.from_buffer_copy(data) for one in other]
+        wrong += [array.array("d", [0.0] * 5), (ctypes.c_double * 3)(), ctypes.c_double(), (ctypes.c_bool * 32)()]
+        for form in wrong:
             self.assertRaises(TypeError, tb.query_batch, f.given, f.n, f.tree, form)
         for cut in (1, 31, 33, 1023):
             self.assertEqual(outcome(tb.query_batch, f.given, f.n, f.tree, data[:cut]), ("refused", 22, 0, 0))
@@ -481,6 +491,146 @@ class Batches(Same):
         self.assertRaises(TypeError, tb.query_batch, f.given, f.n, f.tree, 5)
         mixed = tb.Description(["int32", "float64"], 1, 32)
         self.assertRaises(TypeError, tb.query_batch, mixed, 1, b"", doubles)
+
+
+def kind_bytes(*kinds):
+    return tb.Description(kinds, 1, 32)._given[0]
+
+
+class Formats(unittest.TestCase):
+    """What an item of a lent buffer says of itself, beside the kinds of a description."""
+
+    def items(self, expected, kinds, width, *layouts):
+        for layout in layouts:
+            self.assertEqual(tb._items(kind_bytes(*kinds), layout, width), expected, msg=(kinds, layout, width))
+
+    def test_numbers(self):
+        letters = "bBhHiIlLqQnNefdgPcspx?OwuZt&"
+        right = {"int32": ["i", "=l", "<l"], "int64": ["q", "l", "n"], "uint64": ["Q", "L", "N"]}
+        right.update(float32=["f"], float64=["d"])
+        for kind, known in rules.KINDS.items():
+            width = known.range_bytes // 2
+            for letter in letters:
+                for order in ("", "@", "=", "<", ">", "!"):
+                    standard = order in ("=", "<")
+                    own = letter in right[kind] and not (standard and letter in "lLnN")
+                    fits = own or order + letter in right[kind]
+                    expected = "ends" if fits and order not in (">", "!") else None
+                    if letter not in "Bc":
+                        self.items(expected, [kind], width, order + letter)
+                        self.items(expected, [kind] * 4, width, order + letter)
+            self.items(None, [kind], 2 * width, *right[kind])
+            self.items(None, [kind, "int32" if kind != "int32" else "int64"], width, *right[kind])
+
+    def test_bytes(self):
+        self.items("bytes", ["float64"], 1, "B", "c", "<B", "<c", "@B", "=c")
+        self.items("bytes", ["int32", "float64", "no kind"], 1, "B")
+        self.items(None, ["float64"], 1, "b", "?", "1s", "x", ">B", "2B", "BB", "T{B:a:}", "", "<")
+        self.items(None, ["float64"], 8, "B", "<B", "c")
+
+    def test_records(self):
+        two, mixed = ["float64", "float64"], ["int32", "float64"]
+        self.items(
+            "records", two, 32, "T{d:a:d:b:d:c:d:d:}", "T{<d:a:<d:b:<d:c:<d:d:}", "T{(2)d:x:(2)<d:y:}", "T{(2,2)=d:x:}",
+            "T{(2)T{d:a:d:b:}:w:}", "T{(2)T{<d:a:<d:b:}:w:}", "T{T{d:a:d:b:}:x:T{d:a:d:b:}:y:}", "dddd", "4d",
+            "T{4d:x:}", "T{^d:a:d:b:d:c:d:d:}", "T{d:>:d:}:d:T{:d:(2):}",
+        )
+        self.items(
+            None, two, 32, "T{>d:a:d:b:d:c:d:d:}", "T{d:a:d:b:d:c:>d:d:}", "T{T{>d:a:}:x:d:b:d:c:d:d:}",
+            ">T{(2,2)d:x:}", "T{!d:a:d:b:d:c:d:d:}", "T{(2)>d:x:(2)d:y:}", "T{d:a:d:b:d:c:q:d:}", "T{Zd:a:Zd:b:}",
+            "T{d:a:d:b:d:c:}",
+            "T{d:a:d:b:d:c:d:d:d:e:}", "T{d:a:d:b:d:c:d:d:", "T{d:a:d:b:d:c:d:d:}}", "T{d:a:d:b:d:c:d:d:}2",
+            "T{d:a:d:b:d:c:d:d",
+            "T{d:a:d:b:d:c:8x:d:}", "T{d:a:d:b:d:c:d:d:0x:e:}", "T{(0)d:a:d:b:d:c:d:d:d:e:}", 
+            "T{(999999999,999999999)d:a:}", "T{d:a: d:b:d:c:d:d:}", "T{(2,)d:a:(2,)d:b:}", "X{d:a:d:b:d:c:d:d:}",
+            "T{&d:a:d:b:d:c:d:d:}",
+        )
+        self.items(None, two, 40, "T{d:a:d:b:d:c:d:d:}", "T{xxxxxxxxd:a:d:b:d:c:d:d:}", "T{d:a:8xd:b:d:c:d:d:}")
+        self.items(None, two, 8, "T{d:a:}")
+        self.items(None, two, 16, "T{d:a:d:b:}", "dd")
+        right = "T{i:a:i:b:d:c:d:d:}", "T{i:a:i:b:=d:c:d:d:}", "T{<l:a:<l:b:<d:c:<d:d:}", "T{T{=i:a:=i:b:}:x:d:c:d:d:}"
+        self.items("records", mixed, 24, *right)
+        wrong = "T{d:a:d:b:i:c:i:d:}", "T{i:a:d:b:i:c:d:d:}", "T{i:a:i:b:q:c:q:d:}", "T{f:a:f:b:d:c:d:d:}"
+        self.items(None, mixed, 24, *wrong, "T{I:a:I:b:d:c:d:d:}")
+        # After a record in a record one writer of formats goes on in its order, another in the order before: an l is
+        # then 4 or 8 bytes.
+        longs = ["int64", "int64"]
+        right = "T{T{l:a:l:b:}:x:l:c:l:d:}", "T{T{=q:a:q:b:}:x:@l:c:l:d:}", "T{T{=q:a:q:b:}:x:q:c:q:d:}"
+        self.items("records", longs, 32, *right)
+        self.items(None, longs, 32, "T{T{=q:a:q:b:}:x:l:c:l:d:}")
+        self.items(None, longs, 24, "T{T{=q:a:q:b:}:x:l:c:l:d:}")
+
+    def test_no_kinds(self):
+        for kinds in ([], ["no kind"], ["float64"] * 5):
+            self.items(None, kinds, 8, "d")
+            self.items("bytes", kinds, 1, "B")
+
+    def test_types_of_c(self):
+        """Structures of ctypes: packed ones and unions say that they are bytes; padding and bit fields are left off."""
+
+        def structure(*fields, base=ctypes.Structure, **more):
+            return type("Window", (base,), {**more, "_fields_": [(f"f{i}", *field) for i, field in enumerate(fields)]})
+
+        whole, real = (ctypes.c_int32,), (ctypes.c_double,)
+        kinds = ["int32", "float64"]
+        mixed = tb.Description(kinds, 1, 32), 1, pieces.tree(kinds, [[(0, 9), (0.0, 9.0)]], 2)
+        inner = structure(real, real)
+        for fits in (structure(whole, whole, real, real), structure((ctypes.c_int32 * 2,), (inner,))):
+            made = (fits * 3)()
+            self.assertEqual([hit.found for hit in tb.query_batch(*mixed, made)], [1] * 3)
+            self.assertEqual(tb.box_test(mixed[0], made[0], [(0, 1), (0.0, 1.0)]), (True, 2))
+            self.assertEqual(tb.write_tree(mixed[0], 1, 2, (fits * 1)()), tb.write_tree(mixed[0], 1, 2, bytes(24)))
+        half = (ctypes.c_int32, 16)
+        for wrong in (
+            structure(real, real, whole, whole), structure(whole, real, whole, real), structure(half, half, real, real),
+            structure(whole, whole, real), structure(whole, whole, real, real, _pack_=1), structure(),
+            structure(whole, whole, real, real, base=ctypes.BigEndianStructure),
+            structure(whole, real, real, real, base=ctypes.Union),
+            structure((structure(half, half),), whole, real, real),
+            structure(real, real, base=structure(half, half)),
+        ):
+            made = (wrong * 3)()
+            self.assertRaises(TypeError, tb.query_batch, *mixed, made)
+            self.assertRaises(TypeError, tb.write_tree, mixed[0], 3, 2, made)
+            self.assertRaises(TypeError, tb.box_test, mixed[0], made[0], [(0, 1)] * 2)
+
+    def test_said(self):
+        """The error names both formats, or the shape."""
+        given = tb.Description(["float64", "float64"], 1, 32)
+        for form, *parts in (
+            (array.array("q", [0] * 4), "windows", "'q'", "'<d'", "'T{<d<d<d<d}'"),
+            (memoryview(bytes(64)).cast("d", shape=[1, 8]), "windows", "(1, 8)", "(k, 4)"),
+            (memoryview(bytes(32)).cast("B", shape=[1, 32]), "(1, 32)", "bytes"),
+        ):
+            with self.assertRaises(TypeError) as caught:
+                tb.query_batch(given, 1, b"", form)
+            for part in parts:
+                self.assertIn(part, str(caught.exception))
+
+    def test_looked_at_before_a_copy(self):
+        given = tb.Description(["float64"], 1, 32)
+        large = memoryview(bytearray(2**24)).cast("q")[::-2]
+        tracemalloc.start()
+        self.addCleanup(tracemalloc.stop)
+        self.assertRaises(TypeError, tb.query_batch, given, 1, b"", large)
+        self.assertRaises(TypeError, tb.write_tree, given, 1, 2, large)
+        self.assertRaises(TypeError, tb.write_tree_into, given, 1, 2, large, bytearray(9))
+        self.assertRaises(TypeError, tb.box_test, given, large, [(0, 1)])
+        self.assertLess(tracemalloc.get_traced_memory()[1], 2**18)
+
+    def test_released(self):
+        given, lent = tb.Description(["float64"], 1, 32), bytearray(64)
+        with memoryview(lent) as whole, whole.cast("q") as view:
+            for ask in (
+                lambda: tb.query_batch(given, 1, b"", view), lambda: tb.write_tree(given, 1, 2, view),
+                lambda: tb.box_test(given, view, [(0, 1)]),
+            ):
+                try:
+                    ask()
+                except TypeError as error:
+                    kept = error
+            self.assertIn("'q'", str(kept))
+        lent.append(0)
 
 
 class Refusals(unittest.TestCase):
@@ -618,6 +768,13 @@ class Windows(unittest.TestCase):
                 self.assertEqual(ask(kind), ask(name))
         for kind in (DType("uint32"), DType(7), DType(None), DType([]), type("str", (), {}), DType):
             self.assertEqual(ask(kind), ask("no kind"))
+
+    def test_a_string_is_no_list_of_kinds(self):
+        for kinds in ("int32", "int32,float64", "", "i"):
+            for ask in (lambda: tb.Description(kinds, 1, 1), lambda: tb.Window(kinds, [(0, 1)])):
+                with self.assertRaises(TypeError) as caught:
+                    ask()
+                self.assertIn(repr(kinds.split(",")), str(caught.exception))
 
     def test_float_ends(self):
         for kind in ("float32", "float64"):

@@ -19,8 +19,30 @@ Bytes may be bytes, a bytearray, a memoryview or an mmap, read-only or not. They
 copy; only a memoryview whose bytes do not lie one after the other is copied first. Anything that has no bytes to lend is a
 TypeError.
 
+Windows, boxes and leaves may be lent so too, or as arrays, numpy's or others. The ends of each are the minimum and the
+maximum of dimension 0, then those of dimension 1, and so on. What an array says of itself has to fit, else it is a
+TypeError:
+
+    items                                            shape for k windows or leaves               for one box
+    bytes, format B or c                             a run, (bytes,)                             the same
+    ends of the kind that all D dimensions have      a run, (2 * D * k,); (k, 2 * D); (k, D, 2)  (2 * D,); (D, 2)
+    records of all 2 * D ends, in order, no padding  (k,)                                        ()
+
+Ends are little-endian, as stored ones are. int32 ends on int64 dimensions, or ends of the other byte order, do not
+fit; neither do int8 numbers, nor uint8 ones of more than one dimension. A uint8 array of one dimension is bytes, and is
+answered as those bytes are. What the numbers mean is not to be seen: for D = 2 an array (k, 2, D), minima and then
+maxima of each window, has the shape of (k, D, 2) and can't be told from it, and neither can (k, 2 * D) with all minima
+first.
+
+    low, high = numpy.array([[0.0, 5.0]]), numpy.array([[1.0, 9.0]])  # one window, from 0 to 1 and from 5 to 9
+    numpy.stack([low, high], axis=2)                                  # right: (k, D, 2), [[[0, 1], [5, 9]]]
+    numpy.stack([low, high], axis=1)                                  # wrong: (k, 2, D), [[[0, 5], [1, 9]]]
+    numpy.stack([low, high])                                          # (2, k, D): a TypeError, unless k = D = 2
+
 The library is the file that the environment variable TUSSOCKBELL_LIBRARY names, else the one that was installed with this
-package, else build/libtussockbell.so of the checkout that it is in. All functions may be called from several threads at once.
+package, else build/libtussockbell.so of the checkout that it is in; where it can't be loaded, every call is an OSError.
+All functions may be called from several threads at once, and so may the methods of one `Tree`, `Footer` or `Offsets`;
+one `TreeParts` is for one thread at a time.
 
 `python3 -m tussockbell --help` says what the same does at the command line.
 """
@@ -32,10 +54,13 @@ import functools
 import itertools
 import math
 import mmap
+import numbers
 import operator
 import os
 import pathlib
+import re
 import struct
+import sys
 from array import array
 from collections.abc import Callable, Iterable, Iterator, Sequence
 from contextlib import contextmanager
@@ -130,15 +155,15 @@ _FOOTER_LISTS = {
 # ---- the library
 
 
-def _load() -> ctypes.CDLL:
+def _load() -> Union[ctypes.CDLL, OSError]:
+    """The library, or why there is none."""
     here = pathlib.Path(__file__).resolve()
     installed, built = here.with_name("libtussockbell.so"), here.parents[3] / "build" / "libtussockbell.so"
     path = os.path.abspath(os.environ.get("TUSSOCKBELL_LIBRARY") or (installed if installed.exists() else built))
     try:
         return ctypes.CDLL(path)
     except OSError as error:
-        advice = "run `make lib` in the checkout, or set TUSSOCKBELL_LIBRARY to the path of libtussockbell.so"
-        raise OSError(f"{error}: {advice}") from error
+        return error
 
 
 _library = _load()
@@ -150,9 +175,19 @@ _list = [_u64, _u64, *_bytes]
 
 
 def _function(name: str, arguments: list[Any], result: Any = None) -> Any:
-    function = getattr(_library, "tussockbell_" + name)
+    try:
+        if isinstance(_library, OSError):
+            raise _library
+        function = getattr(_library, "tussockbell_" + name)
+    except (OSError, AttributeError) as error:
+        return functools.partial(_missing, str(error))
     function.argtypes, function.restype = arguments, result
     return function
+
+
+def _missing(why: str, *_arguments: Any) -> None:
+    """Stands for a function of a library that could not be loaded, or that has no such function."""
+    raise OSError(f"{why}: run `make lib` in the checkout, or set TUSSOCKBELL_LIBRARY to the path of libtussockbell.so")
 
 
 _c_footer = _function("footer", [*_footer, _pointer])
@@ -230,17 +265,30 @@ class _Buffer(ctypes.Structure):
 
 
 _simple = 0  # PyBUF_SIMPLE
+_has_buffer = ctypes.PYFUNCTYPE(ctypes.c_int, ctypes.py_object)(("PyObject_CheckBuffer", ctypes.pythonapi))
 _get_buffer = ctypes.PYFUNCTYPE(ctypes.c_int, ctypes.py_object, _pointer, ctypes.c_int)(("PyObject_GetBuffer", ctypes.pythonapi))
 _release_buffer = ctypes.PYFUNCTYPE(None, _pointer)(("PyBuffer_Release", ctypes.pythonapi))
 
 
-def _lend(data: Bytes) -> memoryview:
-    """A view of bytes that lie one after the other. While it is not released they can neither move nor go."""
-    view = memoryview(data)
+def _view(data: Any) -> memoryview:
+    """A view of what lends its bytes; a TypeError for all else, such as a numpy array of dates."""
+    try:
+        return memoryview(data)
+    except (ValueError, BufferError) as error:
+        raise TypeError(f"no bytes can be lent of this {type(data).__name__}: {error}") from error
+
+
+def _one_after_the_other(view: memoryview) -> memoryview:
+    """The view, or one of a copy where its bytes do not lie one after the other."""
     if view.c_contiguous:
         return view
     with view:
         return memoryview(view.tobytes())
+
+
+def _lend(data: Bytes) -> memoryview:
+    """A view of bytes that lie one after the other. While it is not released they can neither move nor go."""
+    return _one_after_the_other(_view(data))
 
 
 def _lent(view: memoryview) -> tuple[Optional[int], int]:
@@ -251,6 +299,12 @@ def _lent(view: memoryview) -> tuple[Optional[int], int]:
         return held.buf, held.len
     finally:
         _release_buffer(ctypes.byref(held))
+
+
+def _overlap(first: tuple[Optional[int], int], second: tuple[Optional[int], int]) -> bool:
+    """Whether two lent byte strings have a byte in common."""
+    (start, length), (other, room) = first, second
+    return start is not None and other is not None and max(start, other) < min(start + length, other + room)
 
 
 @contextmanager
@@ -284,8 +338,6 @@ _ONE_TILE, _ONE_NUMBER = array("i", [0]), array("Q", [0])
 _FIRST_ROOM = 4096
 # Enough for the zero ends of a range of any kind.
 _NO_ENDS = bytes(16)
-# The items of a buffer of plain bytes, as `struct` names them.
-_PLAIN = ("B", "b", "c")
 
 
 def _limited(number: SupportsIndex) -> int:
@@ -311,6 +363,8 @@ def _kind_byte(kind: Kind) -> int:
 
 
 def _kind_bytes(kinds: Iterable[Kind]) -> bytes:
+    if isinstance(kinds, str):
+        raise TypeError(f"kinds has a kind for each dimension: {kinds.split(',')}, not the string {kinds!r}")
     return bytes(map(_kind_byte, kinds))
 
 
@@ -351,12 +405,20 @@ def _pattern(kind: int, end: Any) -> Optional[bytes]:
         return None
 
 
+def _no_complex(ends: Iterable[type]) -> None:
+    """A TypeError where an end's type is complex: numpy's would become a float without their imaginary part."""
+    for each in ends:
+        if issubclass(each, numbers.Complex) and not issubclass(each, numbers.Real):
+            raise TypeError(f"a window's end is a number or its bytes, not {each.__name__}")
+
+
 def _side_bytes(kind: int, side: Any) -> Optional[bytes]:
     """The minimum and the maximum of a side, or None where it is no pair or its kind can't hold an end."""
     try:
         low, high = side
     except (TypeError, ValueError):
         return None
+    _no_complex((type(low), type(high)))
     try:
         return _PAIRS[kind](low, high)
     except (KeyError, struct.error, OverflowError):
@@ -401,9 +463,12 @@ def _packed(kinds: bytes, windows: list[Any]) -> Optional[bytes]:
         # A window that can be gone through only once has no length: it is left to be looked at.
         if not all(map(len, windows)):
             return None
-        # A float32 end that is no float yet may have to be rounded with care.
-        if _FLOAT32 in kinds and {type(end) for window in windows for side in window for end in side} != {float}:
-            return None
+        # A float32 end that is no float yet may have to be rounded with care, and no complex number but numpy's is packed.
+        if _FLOAT32 in kinds or "numpy" in sys.modules:
+            types = {type(end) for window in windows for side in window for end in side}
+            _no_complex(types)
+            if _FLOAT32 in kinds and types != {float}:
+                return None
         return _packer(kinds)(windows)
     except (KeyError, TypeError, ValueError, struct.error, OverflowError):
         return None
@@ -419,13 +484,145 @@ def _given_window(kinds: bytes, window: Any) -> tuple[bytes, bytes]:
     return _window_bytes(kinds, sides)
 
 
-def _items_fit(kinds: bytes, view: memoryview) -> bool:
-    """Whether the items of a buffer are plain bytes, records, or ends of the one kind that all dimensions have."""
-    item = view.format.lstrip("@=<")
-    if item in _PLAIN or item.startswith("T{"):
-        return True
-    own = {"l": "iq", "L": "IQ"}.get(item, item + item)[view.itemsize > 4]
-    return all(_FORMATS.get(kind) == "<" + own for kind in kinds)
+# ---- lending windows, boxes and leaves
+
+# What an item of a buffer is to a description.
+_BYTES, _ENDS, _RECORDS = "bytes", "ends", "records"
+# The sort of number that a letter stands for, and the letter of the kind that has a sort and a width.
+_SORTS = {**dict.fromkeys("ilqn", "signed"), **dict.fromkeys("ILQN", "unsigned"), **dict.fromkeys("fd", "float")}
+_LETTERS = {("signed", 4): "i", ("signed", 8): "q", ("unsigned", 8): "Q", ("float", 4): "f", ("float", 8): "d"}
+# The parts of a format as PEP 3118 has them. What is none of these stands for no end.
+_PART = re.compile(
+    r"(?P<order>[@=<>!^])|(?P<times>\(\d{1,9}(,\d{1,9})*\)|\d{1,9})"
+    r"|(?P<open>T\{)|(?P<close>\})|(?P<name>:[^:]*:)|(?P<letter>[a-zA-Z])"
+)
+_ORDERS = {"<": "little", ">": "big", "!": "big"}
+
+
+def _letter(orders: set[str], letter: str) -> Optional[str]:
+    """The letter of a number's kind; None where it has none, is not little-endian, or has two widths by its orders."""
+    if any(_ORDERS.get(order, sys.byteorder) != "little" for order in orders):
+        return None
+    try:
+        widths = {struct.calcsize(order.replace("^", "@") + letter) for order in orders}
+    except struct.error:
+        return None
+    return _LETTERS.get((_SORTS.get(letter, ""), widths.pop())) if len(widths) == 1 else None
+
+
+def _item_ends(layout: str) -> Optional[str]:
+    """The ends that an item of this format has, one after the other, as the letters of their kinds; None where anything
+    of it is no end. After a record in a record both the order in it and the one before count, since not all who write
+    formats agree which of them it is."""
+    ends, orders, times, at = "", {"@"}, 1, 0
+    outer: list[tuple[str, set[str], int]] = []
+    while at < len(layout):
+        part = _PART.match(layout, at)
+        if part is None:
+            return None
+        at, text, more = part.end(), part.group(), None
+        if part.lastgroup == "order":
+            orders = {text}
+        elif part.lastgroup == "times":
+            times *= math.prod(map(int, text.strip("()").split(",")))
+        elif part.lastgroup == "open":
+            outer.append((ends, orders, times))
+            ends, times = "", 1
+        elif part.lastgroup == "close" and outer and times == 1:
+            more, (ends, before, times) = ends, outer.pop()
+            orders = orders | before
+        elif part.lastgroup == "letter":
+            more = _letter(orders, text)
+        if part.lastgroup in ("close", "letter"):
+            if not more or not 0 < len(more) * times <= 2 * _MOST_DIMENSIONS:
+                return None
+            ends, times = ends + more * times, 1
+    return None if outer or times != 1 else ends
+
+
+def _box_ends(kinds: bytes) -> str:
+    """The letters of all ends of a box, or none where the kinds are outside the limits."""
+    fit = len(kinds) <= _MOST_DIMENSIONS and all(kind in _FORMATS for kind in kinds)
+    return "".join(2 * _FORMATS[kind][1] for kind in kinds) if fit else ""
+
+
+@functools.lru_cache(maxsize=64)
+def _items(kinds: bytes, layout: str, width: int) -> Optional[str]:
+    """What items of this format and so many bytes are to these kinds, or None where they do not fit."""
+    if layout[-1:] in ("B", "c") and layout[:-1] in ("", "@", "=", "<"):
+        return _BYTES if width == 1 else None
+    ends, box = _item_ends(layout), _box_ends(kinds)
+    # Padding that no part of the format stands for shows in the width.
+    if not ends or struct.calcsize("<" + ends) != width:
+        return None
+    if ends == box:
+        return _RECORDS
+    return _ENDS if len(ends) == 1 and "T" not in layout and set(box) == {ends} else None
+
+
+def _fitting(kinds: bytes) -> str:
+    """The formats that fit."""
+    box = _box_ends(kinds)
+    alike = ["<" + box[0]] if len(set(box)) == 1 else []
+    records = ["T{" + "".join("<" + end for end in box) + "}"] if box else []
+    return " or ".join(map(repr, ["B", *alike, *records]))
+
+
+def _has_shape(items: str, dimensions: int, shape: tuple[int, ...], one: bool) -> bool:
+    """Whether a buffer has the shape of one box, or of any number of them."""
+    if items == _BYTES:
+        return len(shape) == 1
+    each = shape if one else shape[1:]
+    if items == _RECORDS:
+        return each == () and (one or shape != ())
+    run = not one and len(shape) == 1 and shape[0] % (2 * dimensions) == 0
+    return run or each in ((2 * dimensions,), (dimensions, 2))
+
+
+def _shapes(items: str, dimensions: int, one: bool) -> str:
+    """The shapes that fit."""
+    if items == _BYTES:
+        return "(bytes,)"
+    if items == _RECORDS:
+        return "()" if one else "(k,)"
+    ends = 2 * dimensions
+    return f"({ends},) or ({dimensions}, 2)" if one else f"({ends} * k,), (k, {ends}) or (k, {dimensions}, 2)"
+
+
+def _has_bit_fields(of: Any) -> bool:
+    """Whether a type of ctypes has bit fields, of which its format says nothing."""
+    while issubclass(of, ctypes.Array):
+        of = of._type_
+    if not issubclass(of, ctypes.Structure):
+        return False
+    fields = [field for each in of.__mro__ for field in vars(each).get("_fields_", ())]
+    return any(len(field) > 2 or _has_bit_fields(field[1]) for field in fields)
+
+
+def _look_at(kinds: bytes, view: memoryview, what: str, one: bool) -> None:
+    """A TypeError where a buffer is not what it is lent as."""
+    items, dimensions = _items(kinds, view.format, view.itemsize), len(kinds)
+    if getattr(getattr(view.obj, "mask", None), "any", bool)():
+        raise TypeError(f"{what}: an array with masked items, of which the mask can't be lent")
+    if items is None:
+        has = f"format {view.format!r}, {view.itemsize} bytes each"
+        raise TypeError(f"{what}: items of {has}, where the description's kinds take {_fitting(kinds)}")
+    if not _has_shape(items, dimensions, view.shape, one):
+        raise TypeError(f"{what}: shape {view.shape}, where {items} take {_shapes(items, dimensions, one)}")
+    if items == _RECORDS and _has_bit_fields(type(view.obj)):
+        raise TypeError(f"{what}: items of format {view.format!r} that have bit fields")
+
+
+def _lend_boxes(description: Description, data: Any, what: str, one: bool = False) -> memoryview:
+    """A view of windows, of leaves or of one box, whose bytes lie one after the other. Items or a shape that do not fit
+    the description are a TypeError, before anything is copied."""
+    view = _view(data)
+    try:
+        _look_at(description._given[0], view, what, one)
+    except BaseException:
+        view.release()
+        raise
+    return _one_after_the_other(view)
 
 
 # ---- what users see
@@ -436,7 +633,8 @@ class Description:
     """What is known of a fragment beforehand, from the array's schema.
 
     `kinds` has a kind for each dimension: "int32", "int64", "float32", "float64", "uint64", TileDB's Datatype number of it, or a
-    type that is called so, such as numpy.dtype("uint64"), numpy.uint64 or a TileDB dimension's dtype.
+    type that is called so, such as numpy.dtype("uint64"), numpy.uint64 or a TileDB dimension's dtype. A string in the
+    list's place is a TypeError: one dimension is ["int32"].
     `fields` is the number of entries in each per-field list of the footer. `capacity` is the cells of a full tile.
 
     A description is not checked when it is made. One outside the limits is refused (1 at 0) where it is used.
@@ -449,7 +647,7 @@ class Description:
     _given: tuple[bytes, int, int, int] = field(init=False, repr=False, compare=False)
 
     def __post_init__(self) -> None:
-        kinds = tuple(self.kinds)
+        kinds = self.kinds if isinstance(self.kinds, str) else tuple(self.kinds)
         given = _kind_bytes(kinds)
         object.__setattr__(self, "kinds", kinds)
         object.__setattr__(self, "_given", (given, len(given), _limited(self.fields), _limited(self.capacity)))
@@ -643,15 +841,9 @@ def _ask_batch(
 ) -> list[Union[Hit, Refused]]:
     if isinstance(windows, bytes):
         return _ask_all(description, tiles, tree, (windows, len(windows)), room)
-    try:
-        view = None if isinstance(windows, (list, tuple)) else _lend(windows)  # type: ignore[arg-type]
-    except TypeError:
-        view = None
-    if view is None:
+    if isinstance(windows, (list, tuple)) or not _has_buffer(windows):
         return _ask_listed(description, tiles, tree, list(windows), room)
-    with view:
-        if not _items_fit(description._given[0], view):
-            raise TypeError(f"a buffer of windows has bytes, or ends of the description's kinds, not items of format {view.format!r}")
+    with _lend_boxes(description, windows, "windows") as view:
         return _ask_all(description, tiles, tree, _lent(view), room)
 
 
@@ -684,8 +876,8 @@ def query_batch(
 
     The windows are those of `query`, or one buffer of them: bytes, a memoryview, an array or whatever else lends its bytes, a
     numpy array too, with the ends of the description's kinds, minimum and maximum of each dimension in turn, window after
-    window. A buffer is lent as it is, and no window of it is looked at here; one that has no whole number of windows is refused
-    (22).
+    window. A buffer is lent as it is, and no window of it is looked at here; `help(tussockbell)` says which items and
+    shapes fit, and all others are a TypeError. Bytes that are no whole number of windows are refused (22).
 
     For each window the list has a `Hit`, or the `Refused` that `query` would raise. With `room` no more than that many tiles are
     listed in all, those of the first windows; a refused window takes none. The library is asked a second time where more tiles
@@ -701,11 +893,11 @@ def box_test(description: Description, box: Bytes, window: Union[Window, Iterabl
 
     It is the query's own test, which leaves at the first dimension that misses: the number is one more than that dimension's,
     counted from 0, or that of all dimensions where the box meets. A stored range with NaN is a miss. The box is not checked
-    otherwise, but for its number of bytes.
+    otherwise, but for its number of bytes. An array fits as `help(tussockbell)` says, or is a TypeError.
     """
     kinds, ends = _given_window(description._given[0], window)
     answer = _BoxTestAnswer()
-    with _lend(box) as view:
+    with _lend_boxes(description, box, "a box", one=True) as view:
         _c_box_test(*description._given, *_lent(view), kinds, len(kinds), ends, len(ends), answer)
     _check(answer)
     return bool(answer[_BOX_TEST_MEETS]), answer[_BOX_TEST_READ]
@@ -780,16 +972,20 @@ class TreeParts:
     bytes, and open them with `open_tree` once all of them are there.
 
     The boxes above the leaf level go to a work buffer. It is made as large as it has to be once the fanout is known, or is
-    lent as `work`: a writable buffer that nothing else may change until the finish. One that is too short is refused (21).
+    lent as `work`: a writable buffer that nothing else may change until the finish. One that is too short is refused
+    (21), and a block that has bytes in common with it is a ValueError.
+
+    One object is for one thread at a time. A call that fails otherwise than by `Refused` may have taken a block in part
+    or not at all: every later one is then a RuntimeError, and the tree has to be checked anew from its first block.
     """
 
-    __slots__ = ("_state", "_work", "_head", "_tiles", "_width", "_answer")
+    __slots__ = ("_state", "_work", "_head", "_tiles", "_width", "_answer", "_under_way")
 
     def __init__(
         self, description: Description, file_size: SupportsIndex, footer: Bytes, stated: SupportsIndex,
         work: Optional[Union[bytearray, memoryview, mmap.mmap]] = None,
     ) -> None:
-        self._state, self._head, self._answer = _PartsState(), bytearray(), None
+        self._state, self._head, self._answer, self._under_way = _PartsState(), bytearray(), None, False
         self._work: Optional[memoryview] = None
         with _lend(footer) as first:
             given = (*description._given, _file_size(file_size), *_lent(first))
@@ -799,45 +995,57 @@ class TreeParts:
         self._tiles = numbers[_FOOTER_NUMBERS["tiles"]]
         self._width = sum(2 * _WIDTHS.get(kind, 0) for kind in description._given[0])
         if work is not None:
-            view = memoryview(work)
+            view = _view(work)
             if view.readonly or not view.c_contiguous:
                 raise TypeError("a work buffer is writable, and its bytes lie one after the other")
-            self._work = view.cast("B")
+            self._work = view
 
     def write(self, block: Bytes) -> None:
         """Takes one block, of any length."""
         if self._answer is not None:
             raise ValueError("the tree is finished")
-        with _lend(block) as view:
-            data = view.cast("B") if view.nbytes else view
-            if self._work is None and len(self._head) < 8:
+        with self._call(), _lend(block) as view:
+            start, length = _lent(view)
+            if self._work is not None and _overlap(_lent(self._work), (start, length)):
+                raise ValueError("the block and the work buffer overlap")
+            if self._work is None and start is not None:
                 # The first eight bytes are taken together, since they say how large the work buffer has to be.
-                first = 8 - len(self._head)
-                self._head += data[:first]
-                if len(self._head) < 8:
-                    return
-                self._take(self._head)
-                data = data[first:]
-            self._take(data)
+                first = min(8 - len(self._head), length)
+                self._head += ctypes.string_at(start, first)
+                start, length = start + first, length - first
+                if len(self._head) == 8:
+                    self._take_head()
+            if self._work is not None:
+                _c_parts_block(self._state, *_lent(self._work), start, length)
 
     def finish(self) -> Opened:
         """What all blocks came to: tiles, fanout and levels, or `Refused`."""
         if self._answer is None:
-            if self._work is None:
-                self._take(self._head)
-            self._answer = _OpenAnswer()
-            assert self._work is not None
-            _c_parts_finish(self._state, *_lent(self._work), self._answer)
+            with self._call():
+                work = self._take_head() if self._work is None else self._work
+                answer = _OpenAnswer()
+                _c_parts_finish(self._state, *_lent(work), answer)
+                self._answer = answer
         _check(self._answer, self._answer[_OPEN_WHICH])
         return Opened(self._answer[_OPEN_TILES], self._answer[_OPEN_FANOUT], self._answer[_OPEN_LEVELS])
 
-    def _take(self, data: Union[bytearray, memoryview]) -> None:
-        if self._work is None:
-            fanout = int.from_bytes(self._head[:4], "little") if len(self._head) >= 4 else 0
-            known = fanout if fanout <= 1024 else 0
-            self._work = memoryview(bytearray(_inner_bytes(self._width, self._tiles, known)))
-        with memoryview(data) as view:
+    @contextmanager
+    def _call(self) -> Iterator[None]:
+        """A call that takes bytes. There is none while another is under way, or after one that did not end well."""
+        if self._under_way:
+            raise RuntimeError("an earlier call of this TreeParts failed, or another thread is in one: it is of no use")
+        self._under_way = True
+        yield
+        self._under_way = False
+
+    def _take_head(self) -> memoryview:
+        """Makes the work buffer, and takes the bytes that were held back until then."""
+        fanout = int.from_bytes(self._head[:4], "little") if len(self._head) >= 4 else 0
+        known = fanout if fanout <= 1024 else 0
+        self._work = memoryview(bytearray(_inner_bytes(self._width, self._tiles, known)))
+        with memoryview(self._head) as view:
             _c_parts_block(self._state, *_lent(self._work), *_lent(view))
+        return self._work
 
 
 class Offsets(Sequence[Tuple[int, int]]):
@@ -931,15 +1139,15 @@ def _write(description: Description, tiles: int, fanout: int, leaves: tuple[Opti
 def write_tree(description: Description, tiles: SupportsIndex, fanout: SupportsIndex, leaves: Bytes) -> bytes:
     """Writes the whole R-tree body of so many leaf boxes, which stand one after the other in `leaves`.
 
-    A leaf box is the minimum and the maximum of each dimension, little-endian, of that dimension's kind. Each box above the
-    leaves is the least box around its row of children. `open_tree` accepts the body with every footer of this description and
-    this number of tiles whose domain holds the first box.
+    A leaf box is the minimum and the maximum of each dimension, little-endian, of that dimension's kind. An array of
+    them fits as `help(tussockbell)` says, or is a TypeError. Each box above the leaves is the least box around its row
+    of children. `open_tree` accepts the body with every footer of this description and this number of tiles whose
+    domain holds the first box.
     """
     number, most = _limited(tiles), _limited(fanout)
-    length = tree_length(description, number, most)
-    box_bytes = sum(2 * _WIDTHS[kind] for kind in description._given[0])
-    with _lend(leaves) as view:
-        lent = _lent(view)
+    with _lend_boxes(description, leaves, "leaves") as view:
+        length, lent = tree_length(description, number, most), _lent(view)
+        box_bytes = sum(2 * _WIDTHS[kind] for kind in description._given[0])
         # Leaves of another length are refused whatever the room is.
         out = bytearray(length if lent[1] == number * box_bytes else 0)
         with memoryview(out) as room:
@@ -958,8 +1166,8 @@ def write_tree_into(
     with memoryview(out) as room:
         if room.readonly or not room.c_contiguous:
             raise TypeError("the buffer to write to is read-only, or its bytes do not lie one after the other")
-        with _lend(leaves) as view:
-            (start, length), (to, space) = _lent(view), _lent(room)
-            if length and space and start is not None and to is not None and start < to + space and to < start + length:
+        with _lend_boxes(description, leaves, "leaves") as view:
+            lent = _lent(view)
+            if _overlap(lent, _lent(room)):
                 raise ValueError("the leaves and the buffer to write to overlap")
-            return _write(description, _limited(tiles), _limited(fanout), (start, length), room)
+            return _write(description, _limited(tiles), _limited(fanout), lent, room)

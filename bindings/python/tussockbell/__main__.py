@@ -11,22 +11,58 @@ were looked at; then tile, offset, extent and cells of each tile that it touches
 
 draws two dimensions of the tree and the tiles that the window touches.
 
-FOOTER, TREE and OFFSETS are files of plain bytes. What is wrong with them, with the numbers or with the window is asked of
-the library. A refusal is a line on standard error, with its number, its place and its words, and exit status 1. A file that
-can't be read or written, and a command that isn't one, give exit status 2.
+FOOTER, TREE and OFFSETS are files of plain bytes, or pipes. What is wrong with them, with the numbers or with the
+window is asked of the library. A refusal is a line on standard error, with its number, its place and its words, and
+exit status 1. Any other failure is a line there and exit status 2: a file that can't be read or written, a character
+device, a pipe longer than any tree, a command that isn't one. Where whoever reads the answer has gone, as in `| head`,
+it is exit status 2 and no line.
 """
 
 from __future__ import annotations
 
 import argparse
+import mmap
 import os
+import stat
 import sys
-from typing import Any, Optional, Union
+from typing import Any, BinaryIO, NoReturn, Optional, TextIO, Union
 
 import tussockbell as tb
 from tussockbell import _picture
 
 _REFUSED, _FAILED = 1, 2
+
+
+class _Parser(argparse.ArgumentParser):
+    """One that says in one line what is wrong with a command, and that its help could not be written."""
+
+    def error(self, message: str) -> NoReturn:
+        _say(f"{message}; for usage: {self.prog} --help")
+        sys.exit(_FAILED)
+
+    def _print_message(self, message: str, file: Any = None) -> None:
+        """Help and version; argparse itself passes over what can't be written."""
+        _write(message)
+
+
+def _write(text: str) -> None:
+    if sys.stdout is None:
+        raise ValueError("standard output: closed")
+    sys.stdout.write(text)
+
+
+def _say(text: str) -> None:
+    """One line on standard error, if there is one."""
+    try:
+        if sys.stderr is not None:
+            print("tussockbell:", *text.split(), file=sys.stderr, flush=True)
+    except OSError:
+        _no_more(sys.stderr)
+
+
+def _no_more(stream: TextIO) -> None:
+    """What could not be written to a stream is not tried again at the end."""
+    os.dup2(os.open(os.devnull, os.O_WRONLY), stream.fileno())
 
 
 def _number(text: str) -> Union[int, float]:
@@ -60,16 +96,16 @@ def _axes(text: str) -> tuple[int, int]:
 
 
 def _arguments(words: list[str]) -> argparse.Namespace:
-    parser = argparse.ArgumentParser(
+    parser = _Parser(
         prog="python3 -m tussockbell",
         description="Which data tiles of a sparse TileDB fragment does a window touch?",
-        epilog="Exit status: 0 answered; 1 refused, with number, place and words on standard error; 2 a file or the command "
-        "is at fault.",
+        epilog="Exit status: 0 answered; 1 refused, with number, place and words on standard error; 2 any other "
+        "failure, as of a file or of the command.",
         allow_abbrev=False,
     )
     parser.add_argument("--version", action="version", version=f"tussockbell {tb.__version__}")
     commands = parser.add_subparsers(dest="command", required=True, metavar="query|plot")
-    asked = argparse.ArgumentParser(add_help=False, allow_abbrev=False)
+    asked = _Parser(add_help=False, allow_abbrev=False)
     asked.add_argument("--kinds", required=True, help="a kind for each dimension, as int32,float64")
     asked.add_argument("--fields", required=True, type=int, metavar="N", help="entries in each per-field list")
     asked.add_argument("--capacity", required=True, type=int, metavar="C", help="cells of a full tile")
@@ -99,9 +135,32 @@ def _arguments(words: list[str]) -> argparse.Namespace:
     return parser.parse_args(joined)
 
 
-def _read(path: str) -> bytes:
+def _most_bytes() -> int:
+    """The bytes of the largest body that the limits allow."""
+    return tb.tree_length(tb.Description(["uint64"] * 4, 1, 1), 2**24, 2)
+
+
+def _read_at_most(file: BinaryIO, most: int) -> bytearray:
+    data = bytearray()
+    while block := file.read(min(2**20, most + 1 - len(data))):
+        data += block
+    if len(data) > most:
+        raise ValueError(f"{file.name}: more than {most} bytes, which no body has")
+    return data
+
+
+def _read(path: str) -> tb.Bytes:
+    """A file's bytes: mapped, or read with a limit where they can't be, as those of a pipe can't."""
     with open(path, "rb") as file:
-        return file.read()
+        about = os.fstat(file.fileno())
+        if stat.S_ISCHR(about.st_mode):
+            raise ValueError(f"{path}: a character device, which is no file of bytes")
+        if stat.S_ISREG(about.st_mode) and about.st_size:
+            try:
+                return mmap.mmap(file.fileno(), 0, access=mmap.ACCESS_READ)
+            except OSError:
+                pass
+        return _read_at_most(file, _most_bytes())
 
 
 def _query(asked: argparse.Namespace, description: tb.Description) -> None:
@@ -114,8 +173,7 @@ def _query(asked: argparse.Namespace, description: tb.Description) -> None:
     for tile in hit.tiles:
         offset, extent = extents[tile]
         lines.append(f"{tile}\t{offset}\t{extent}\t{numbers.cells(tile)}\n")
-    sys.stdout.writelines(lines)
-    sys.stdout.flush()
+    _write("".join(lines))
 
 
 def _plot(asked: argparse.Namespace, description: tb.Description) -> None:
@@ -128,26 +186,38 @@ def _plot(asked: argparse.Namespace, description: tb.Description) -> None:
     if any(not 0 <= axis < dimensions for axis in asked.axes) or asked.axes[0] == asked.axes[1]:
         raise ValueError(f"--axes takes two of the dimensions 0 to {dimensions - 1}")
     picture = _picture.draw(description, opened, tree, asked.window, hit, asked.axes)
-    with open(asked.out, "w", encoding="utf-8") as file:
-        file.write(picture)
+    try:
+        with open(asked.out, "w", encoding="utf-8") as file:
+            file.write(picture)
+    except OSError as error:
+        raise ValueError(f"{asked.out}: {error.strerror}") from None
+
+
+def _answer(words: Optional[list[str]]) -> None:
+    """Answers a command on standard output, with all of it written."""
+    try:
+        asked: Any = _arguments(sys.argv[1:] if words is None else words)
+        description = tb.Description(asked.kinds.split(","), asked.fields, asked.capacity)
+        {"query": _query, "plot": _plot}[asked.command](asked, description)
+    finally:
+        if sys.stdout is not None:
+            sys.stdout.flush()
 
 
 def main(words: Optional[list[str]] = None) -> int:
-    asked: Any = _arguments(sys.argv[1:] if words is None else words)
-    description = tb.Description(asked.kinds.split(","), asked.fields, asked.capacity)
     try:
-        {"query": _query, "plot": _plot}[asked.command](asked, description)
+        _answer(words)
     except tb.Refused as refused:
-        print(f"tussockbell: {refused}", file=sys.stderr)
+        _say(str(refused))
         return _REFUSED
     except OSError as error:
-        print(f"tussockbell: {error.filename or 'standard output'}: {error.strerror}", file=sys.stderr)
-        if error.filename is None:
-            # What could not be written is not tried again at the end.
-            os.dup2(os.open(os.devnull, os.O_WRONLY), sys.stdout.fileno())
+        if error.filename is None and error.errno is not None:
+            _no_more(sys.stdout)
+        if not isinstance(error, BrokenPipeError):
+            _say(f"{error.filename or 'standard output'}: {error.strerror}" if error.errno else str(error))
         return _FAILED
-    except ValueError as error:
-        print(f"tussockbell: {error}", file=sys.stderr)
+    except Exception as error:
+        _say(str(error) if isinstance(error, ValueError) else f"{type(error).__name__}: {error}")
         return _FAILED
     return 0
 

@@ -5,6 +5,7 @@ from __future__ import annotations
 
 import math
 import struct
+import sys
 from collections.abc import Iterator, Sequence
 from typing import Any, NamedTuple
 from xml.sax.saxutils import escape
@@ -16,6 +17,7 @@ _WIDTH, _HEIGHT = 760, 560
 _LEFT, _RIGHT, _TOP, _BOTTOM = 90, 20, 50, 60
 _PADDING = 0.04
 _TICKS = 6
+_MOST = sys.float_info.max
 
 _STYLE = """\
     text { font: 12px sans-serif; fill: #333 }
@@ -35,18 +37,33 @@ class _Box(NamedTuple):
     high: float
 
 
+def _scale(low: float, high: float) -> float:
+    """What two ends are multiplied by before one is taken from the other, so that what lies between is no infinity."""
+    return 0.25 if max(abs(low), abs(high)) > 1e300 else 1.0
+
+
+def _place(x: float, low: float, high: float) -> float:
+    """Where a number lies between two ends: 0 at the first, 1 at the second."""
+    by = _scale(low, high)
+    return (x * by - low * by) / (high * by - low * by)
+
+
+def _part(low: float, high: float, share: float) -> float:
+    """A share of what lies between two ends, half of it at most."""
+    by = _scale(low, high)
+    return (high * by - low * by) * share / by
+
+
 class _View(NamedTuple):
     """What of the two dimensions is seen, and where it lies in the picture."""
 
     seen: _Box
 
     def across(self, x: float) -> float:
-        share = (x - self.seen.left) / (self.seen.right - self.seen.left)
-        return _LEFT + share * (_WIDTH - _LEFT - _RIGHT)
+        return _LEFT + _place(x, self.seen.left, self.seen.right) * (_WIDTH - _LEFT - _RIGHT)
 
     def up(self, y: float) -> float:
-        share = (y - self.seen.low) / (self.seen.high - self.seen.low)
-        return _HEIGHT - _BOTTOM - share * (_HEIGHT - _TOP - _BOTTOM)
+        return _HEIGHT - _BOTTOM - _place(y, self.seen.low, self.seen.high) * (_HEIGHT - _TOP - _BOTTOM)
 
 
 def _levels(tiles: int, fanout: int) -> list[int]:
@@ -57,7 +74,9 @@ def _levels(tiles: int, fanout: int) -> list[int]:
     return counts
 
 
-def _boxes(description: tb.Description, tree: bytes, counts: Sequence[int], axes: tuple[int, int]) -> Iterator[list[_Box]]:
+def _boxes(
+    description: tb.Description, tree: tb.Bytes, counts: Sequence[int], axes: tuple[int, int]
+) -> Iterator[list[_Box]]:
     """The two sides of every box, level by level, as an accepted tree has them."""
     ends = [tb._FORMATS[kind][1] for kind in description._given[0]]
     box = struct.Struct("<" + "".join(2 * one for one in ends))
@@ -71,17 +90,17 @@ def _boxes(description: tb.Description, tree: bytes, counts: Sequence[int], axes
 
 
 def _padded(low: float, high: float) -> tuple[float, float]:
-    room = (high - low) * _PADDING or max(abs(low), 1.0) * _PADDING
-    return low - room, high + room
+    room = _part(low, high, _PADDING) or max(abs(low), 1.0) * _PADDING
+    return max(low - room, -_MOST), min(high + room, _MOST)
 
 
 def _ticks(low: float, high: float) -> list[float]:
     """Round numbers within a range, some six of them."""
-    rough = (high - low) / _TICKS
+    rough = _part(low, high, 1 / _TICKS)
     scale = 10.0 ** math.floor(math.log10(rough))
     step = scale * next(s for s in (1, 2, 5, 10) if s * scale >= rough)
-    first = math.ceil(low / step)
-    return [n * step for n in range(first, math.floor(high / step) + 1)]
+    numbers = [n * step for n in range(math.ceil(low / step), math.floor(high / step) + 1)]
+    return [number for number in numbers if low <= number <= high]
 
 
 def _rectangle(view: _View, box: _Box, kind: str) -> str:
@@ -98,9 +117,16 @@ def _words(text: str, x: float, y: float, anchor: str = "middle", more: str = ""
     return f'<text x="{x:.2f}" y="{y:.2f}" text-anchor="{anchor}"{more}>{escape(text)}</text>'
 
 
+def _as_float(end: Any) -> float:
+    try:
+        return float(end)
+    except OverflowError:
+        return math.inf if end > 0 else -math.inf
+
+
 def _window(view: _View, window: Sequence[Any], axes: tuple[int, int]) -> Iterator[str]:
     """The window as far as it is seen: its inside, and each of its edges that lies in the picture."""
-    (left, right), (low, high) = (tuple(map(float, window[axis])) for axis in axes)
+    (left, right), (low, high) = (tuple(map(_as_float, window[axis])) for axis in axes)
     seen = view.seen
     inside = _Box(max(left, seen.left), min(right, seen.right), max(low, seen.low), min(high, seen.high))
     if inside.left > inside.right or inside.low > inside.high:
@@ -132,7 +158,8 @@ def _axis_lines(view: _View, names: tuple[str, str]) -> Iterator[str]:
 
 
 def draw(
-    description: tb.Description, opened: tb.Tree, tree: bytes, window: Sequence[Any], hit: tb.Hit, axes: tuple[int, int]
+    description: tb.Description, opened: tb.Tree, tree: tb.Bytes, window: Sequence[Any], hit: tb.Hit,
+    axes: tuple[int, int],
 ) -> str:
     """The picture of an accepted tree and of what a window, which was not refused, finds in it."""
     levels = list(_boxes(description, tree, _levels(opened.tiles, opened.fanout), axes))
