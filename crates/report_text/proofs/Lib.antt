@@ -1,5 +1,4 @@
 -- The laws that belong to no one function.
-pub mod Lines
 pub mod Reading
 pub mod Writing
 pub mod Outcomes

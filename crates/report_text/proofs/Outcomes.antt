@@ -32,12 +32,13 @@ use Rattle.query.specs.Query.{queryRefusal, queryAnswer, queryAnswerBy, foundAt
 use Rattle.query.proofs.Promised.{passed-all}
 use Rattle.decimal.specs.Write.{put}
 use Rattle.decimal.proofs.Put.{put-fits}
+use Rattle.text.specs.Code.Places.{Wrote}
+use Rattle.text.proofs.Writing.{seen-laid}
 use Rattle.report_text.specs.declared.Asked.{Asked}
 use Rattle.report_text.specs.declared.Outcome.{Outcome}
 use Rattle.report_text.specs.Asked.{askedOf}
 use Rattle.report_text.specs.Text.{mostBytes, isLong, opened, answered, offsetsListed, lastCells, tileText, tilesText, listingText, reportRefusal, answerText, reportText}
-use Rattle.report_text.specs.Code.Writing.{mostFound, Wrote, outcomeText, Ended, Renders}
-use Rattle.report_text.proofs.Writing.{seen-laid}
+use Rattle.report_text.specs.Code.Writing.{mostFound, outcomeText, Ended, Renders}
 
 -- a query's answer
 module _ (d : Description) (n : ℕ) (tree : List ℕ) (w : Window) where

@@ -4,95 +4,81 @@
 use mathlib.Core.Path.{_≡_, refl, ap, sym, _∙_}
 use mathlib.Core.Bool.{Bool, true, _&&_}
 use mathlib.Core.List.{List}
-use Prim.Native.Nat.{ℕ, _+_, _-_, _≤_, _<_}
+use Prim.Native.Nat.{ℕ, _+_, _≤_, _<_}
 use native.Mathlib.Nat.{zero-add}
 use native.Mathlib.Numerals.{add-one}
-use native.Mathlib.Decide.{decLe}
 use native.Mathlib.Omega.{arith}
-use lib.Dec.{eqb}
-use lib.ListN.{length, set, getD, replicate, length-drop}
-use borrow.Author.Tests.{eq-eqb, ne-eqb, lt-ltb}
+use lib.Dec.{leb, eqb}
+use lib.ListN.{length, set, replicate}
+use borrow.Author.Tests.{lt-ltb}
 use Rattle.answers.specs.Runs.{filled}
 use Rattle.answers.proofs.Runs.{over-done, over-snoc}
 use Rattle.answers.proofs.Filled.{filled-none, filled-at, filled-more}
 use Rattle.answers.specs.declared.Refusal.{Refusal}
+use Rattle.description.specs.declared.Kind.the-variants.{Int32}
 use Rattle.description.specs.declared.Dimension.{Dimension}
 use Rattle.boxes.specs.declared.Side.{Side}
-use Rattle.description.specs.Description.{descriptionRefusal}
+use Rattle.description.specs.Description.{kindAt, descriptionRefusal}
 use Rattle.boxes.specs.Boxes.{all, noSide}
 use Rattle.description.proofs.Tests.{and-assoc, and-true}
+use Rattle.text.specs.Code.Places.{AtLine}
+use Rattle.text.proofs.Lines.{lines-past}
 use Rattle.report_text.specs.declared.Asked.{Asked}
 use Rattle.report_text.specs.declared.Line.{Line}
 use Rattle.report_text.specs.declared.SideLines.{SideLines}
 use Rattle.report_text.specs.declared.Widths.{Widths}
 use Rattle.report_text.specs.declared.WindowLines.{WindowLines}
-use Rattle.report_text.specs.Lines.{fromLine}
-use Rattle.report_text.specs.Asked.{mostNumber, isWidth, dimensionOf, dimensionsAt, bitsAt, windowLine, windowSide, windowGood, isGood, askedOf}
-use Rattle.report_text.specs.Code.Reading.{Starts, ReadLine, ReadSide, ReadWidths, ReadWindow}
+use Rattle.report_text.specs.Asked.{mostNumber, isWidth, dimensionOf, dimensionsAt, bitsAt, windowLine, windowRead, windowSide, isGood, askedOf}
+use Rattle.report_text.specs.Code.Reading.{ReadLine, ReadSide, ReadWidths, ReadWindow}
 
 all-more : (g : ℕ → Bool) (m : ℕ) → all g 0 (m + 1) ≡ all g 0 m && g m
 all-more g m = rw (add-one m) (over-snoc _&&_ true and-assoc (λ a. refl) and-true g 0 m ∙ rw (zero-add m))
 
 module _ (t : List ℕ) where
-  starts-at : (k : ℕ) {m at : ℕ} → Starts t k at → k ≡ m → Starts t m at
+  starts-at : (k : ℕ) {m at : ℕ} → AtLine t k at → k ≡ m → AtLine t m at
   starts-at k s e = rw e at s
 
-  pub widths-none : {at : ℕ} {wide : Dimension} → Starts t 1 at → wide ≡ dimensionOf 64
-      → ReadWidths t 0 (record { good = true; bits = replicate 4 64; kinds = replicate 4 wide; next = at })
+  pub widths-none : {at : ℕ} {wide : Dimension} → AtLine t 1 at → wide ≡ dimensionOf 64
+      → ReadWidths t 0 (record { good = true; kinds = replicate 4 wide; next = at })
   widths-none s e = record {
     good = sym (over-done _&&_ true (λ i. isWidth (bitsAt t i)) 0 0 (omega arith));
-    bits = sym (filled-none (bitsAt t) 64 4);
     kinds = rw e (sym (filled-none (λ i. dimensionOf (bitsAt t i)) (dimensionOf 64) 4));
     next = s;
   }
 
   pub widths-more : (m : ℕ) {w : Widths} {r : Line} {d : Dimension} → m < 4 → ReadWidths t m w → ReadLine t (1 + m) mostNumber r
       → d ≡ dimensionOf (r .number .value)
-      → ReadWidths t (m + 1) (record {
-        good = w .good && isWidth (r .number .value);
-        bits = set (w .bits) m (r .number .value);
-        kinds = set (w .kinds) m d;
-        next = r .next;
-      })
+      → ReadWidths t (m + 1) (record { good = w .good && isWidth (r .number .value); kinds = set (w .kinds) m d; next = r .next })
   widths-more m l w r e = record {
     good = rw (w .good, r .number) (sym (all-more (λ i. isWidth (bitsAt t i)) m));
-    bits = rw (w .bits, r .number) (filled-more (bitsAt t) 64 m 4 l);
     kinds = rw (w .kinds, e, r .number) (filled-more (λ i. dimensionOf (bitsAt t i)) (dimensionOf 64) m 4 l);
     next = starts-at (1 + m + 1) (r .next) (omega arith);
   }
 
-  -- a dimension's bits are read back
-  pub bits-back : (D m : ℕ) → m < D → D ≤ 4 → {bits : List ℕ} → bits ≡ filled (bitsAt t) 64 D 4 → getD bits m 0 ≡ bitsAt t m
-  bits-back D m l h e = rw e (filled-at (bitsAt t) 64 D 4 m 0 (omega arith) ∙ rw (lt-ltb m D l))
+  -- a dimension's kind is read back
+  pub kind-back : (D m : ℕ) → m < D → D ≤ 4 → {kinds : List Dimension} → kinds ≡ filled (λ i. dimensionOf (bitsAt t i)) (dimensionOf 64) D 4
+      → kindAt kinds m ≡ dimensionOf (bitsAt t m) .kind
+  kind-back D m l h e =
+      let z = filled-at (λ i. dimensionOf (bitsAt t i)) (dimensionOf 64) D 4 m (record { kind = Int32 }) (omega arith) in
+      rw e (ap (λ (d : Dimension). d .kind) (z ∙ rw (lt-ltb m D l)))
 
   module _ (D : ℕ) where
-    pub window-none : {at : ℕ} {sides : List Side} → Starts t (5 + D) at → sides ≡ filled (windowSide t D) noSide 0 4
+    pub window-none : {at : ℕ} {sides : List Side} → AtLine t (5 + D) at → sides ≡ filled (windowSide t D) noSide 0 4
         → ReadWindow t D 0 (record { good = true; sides = sides; next = at })
     window-none s e = record {
-      good = sym (over-done _&&_ true (windowGood t D) 0 0 (omega arith));
+      good = sym (over-done _&&_ true (λ i. windowRead t D i .read) 0 0 (omega arith));
       sides = e;
       next = starts-at (5 + D) s (omega arith);
     }
 
     pub window-more : (m : ℕ) {w : WindowLines} {r : SideLines} → m < 4 → ReadWindow t D m w
-        → ReadSide t (windowLine t D m) (bitsAt t m) r
+        → ReadSide t (windowLine t D m) (dimensionOf (bitsAt t m) .kind) r
         → ReadWindow t D (m + 1) (record { good = w .good && r .good; sides = set (w .sides) m (r .side); next = r .next })
     window-more m l w r = record {
-      good = rw (w .good, r .good) (sym (all-more (windowGood t D) m));
+      good = rw (w .good, r .good) (sym (all-more (λ i. windowRead t D i .read) m));
       sides = rw (w .sides, r .side) (filled-more (windowSide t D) noSide m 4 l);
       next = starts-at (windowLine t D m + 2) (r .next) (omega arith);
     }
-
-  -- nothing is left where the place is the end of the text
-  pub ended : (k at : ℕ) → Starts t k at → eqb at (length t) ≡ eqb (length (fromLine k t)) 0
-  ended k at s = go (decLe (length t) at)
-    where
-      left : length (fromLine k t) ≡ length t - at
-      left = sym (ap length (s .rest)) ∙ length-drop at t
-
-      go : Dec (length t ≤ at) → eqb at (length t) ≡ eqb (length (fromLine k t)) 0
-      go (yes h) = rw (eq-eqb at (length t) (omega (arith, s .inside)), eq-eqb (length (fromLine k t)) 0 (omega (arith, left)))
-      go (no h) = rw (ne-eqb at (length t) (λ e. omega arith), ne-eqb (length (fromLine k t)) 0 (λ e. omega (arith, left)))
 
 -- all that was read makes up what the file says, each line being the one after the line before it
 module _ (t : List ℕ) (D : ℕ) (own : D ≡ dimensionsAt t)
@@ -103,7 +89,7 @@ module _ (t : List ℕ) (D : ℕ) (own : D ≡ dimensionsAt t)
       → _≡_ {A = Asked} (record {
         good =
             eqb (refusal .number) 0 && widths .good && size .number .read && bytes .number .read && window .good
-            && eqb (window .next) (length t);
+            && leb (length t) (window .next);
         description = record { dimensions = D; kinds = widths .kinds; fields = fields .number .value; capacity = capacity .number .value };
         «file_size» = size .number .value;
         «data_size» = bytes .number .value;
@@ -127,6 +113,6 @@ module _ (t : List ℕ) (D : ℕ) (own : D ≡ dimensionsAt t)
         four,
         v .good,
         v .sides,
-        ended t (windowLine t D D) (window .next) (v .next),
+        lines-past (v .next),
         own,
       )

@@ -4,11 +4,10 @@
 use Prim.Native.Nat.{ℕ, _+_, _-_, _*_, _^_}
 use mathlib.Core.Bool.{Bool, _&&_, _||_, cond}
 use mathlib.Core.List.{List}
-use lib.Dec.{eqb}
+use lib.Dec.{leb, eqb}
 use lib.ListN.{length}
 use Rattle.answers.specs.Runs.{filled}
 use Rattle.description.specs.declared.Kind.the-variants.{Int32, Int64}
-use Rattle.ranges.specs.declared.Range.the-variants.{I32, I64}
 use Rattle.description.specs.declared.Dimension.{Dimension}
 use Rattle.description.specs.declared.Description.{Description}
 use Rattle.boxes.specs.declared.Side.{Side}
@@ -16,9 +15,11 @@ use Rattle.description.specs.Limits.{mostDimensions}
 use Rattle.description.specs.Description.{descriptionRefusal}
 use Rattle.boxes.specs.Boxes.{all, noSide}
 use Rattle.decimal.specs.declared.Number.{Number}
-use Rattle.decimal.specs.Read.{readNumber, signed32, signed64}
+use Rattle.decimal.specs.Read.{readNumber}
+use Rattle.text.specs.Text.{lines, lineAt}
+use Rattle.range_text.specs.declared.ReadRange.{ReadRange}
+use Rattle.range_text.specs.Ranges.{readRange}
 use Rattle.report_text.specs.declared.Asked.{Asked}
-use Rattle.report_text.specs.Lines.{fromLine, lineAt}
 
 abbrev pub mostNumber : ℕ
 mostNumber = 2 ^ 64 - 1
@@ -29,17 +30,6 @@ isWidth bits = eqb bits 32 || eqb bits 64
 
 abbrev pub dimensionOf : ℕ → Dimension
 dimensionOf bits = record { kind = cond (eqb bits 64) Int64 Int32 }
-
--- a side of the window from its two lines, numbers of so many bits; and whether both are
-unfoldable pub sideOf : ℕ → List ℕ → List ℕ → Side
-sideOf bits low high =
-    cond (eqb bits 64)
-    (record { range = I64 (signed64 low .value) (signed64 high .value) })
-    (record { range = I32 (signed32 low .value) (signed32 high .value) })
-
-unfoldable pub sideGood : ℕ → List ℕ → List ℕ → Bool
-sideGood bits low high =
-    cond (eqb bits 64) (signed64 low .read && signed64 high .read) (signed32 low .read && signed32 high .read)
 
 module _ (t : List ℕ) where
   -- line i as a number; where it is none the value is 0
@@ -68,11 +58,11 @@ module _ (t : List ℕ) where
     abbrev pub windowLine : ℕ → ℕ
     windowLine i = 5 + D + 2 * i
 
-    abbrev pub windowSide : ℕ → Side
-    windowSide i = sideOf (bitsAt i) (lineAt (windowLine i) t) (lineAt (windowLine i + 1) t)
+    abbrev pub windowRead : ℕ → ReadRange
+    windowRead i = readRange (dimensionOf (bitsAt i) .kind) (lineAt (windowLine i) t) (lineAt (windowLine i + 1) t)
 
-    abbrev pub windowGood : ℕ → Bool
-    windowGood i = sideGood (bitsAt i) (lineAt (windowLine i) t) (lineAt (windowLine i + 1) t)
+    abbrev pub windowSide : ℕ → Side
+    windowSide i = record { range = windowRead i .range }
 
     -- The description is within its limits, every other line is what it has to be, and nothing stands after the last.
     -- (N and C are 0, outside their limits, where they are no numbers.)
@@ -82,8 +72,8 @@ module _ (t : List ℕ) where
         && all (λ i. isWidth (bitsAt i)) 0 D
         && numberAt (3 + D) .read
         && numberAt (4 + D) .read
-        && all windowGood 0 D
-        && eqb (length (fromLine (windowLine D) t)) 0
+        && all (λ i. windowRead i .read) 0 D
+        && leb (length (lines t)) (windowLine D)
 
     abbrev pub askedWith : Asked
     askedWith = record {

@@ -1,5 +1,4 @@
 -- The definitions that this crate's contracts cite.
-pub mod Lines
 pub mod Asked
 pub mod Text
 pub mod Code

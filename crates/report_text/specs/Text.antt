@@ -16,22 +16,16 @@ use Rattle.rtree.specs.declared.Opened.{Opened}
 use Rattle.query.specs.declared.Answer.{Answer}
 use Rattle.rtree.specs.Opening.{openAnswer}
 use Rattle.query.specs.Query.{queryAnswer, foundAt}
-use Rattle.decimal.specs.Decimal.{decimal}
-use Rattle.report_text.specs.Lines.{newline}
+use Rattle.text.specs.Text.{tab, newline}
+use Rattle.text.specs.Write.{field}
 use Rattle.report_text.specs.declared.Asked.{Asked}
 use Rattle.report_text.specs.Asked.{askedOf}
-
-abbrev pub tab : ℕ
-tab = 9
 
 -- `too long`
 abbrev pub tooLongText : List ℕ
 tooLongText = 116 ∷ 111 ∷ 111 ∷ 32 ∷ 108 ∷ 111 ∷ 110 ∷ 103 ∷ newline ∷ []
 
--- a number, and then a tab or a newline; and the same after a word
-abbrev pub field : ℕ → ℕ → List ℕ
-field n end = decimal n ++ (end ∷ [])
-
+-- a word, and then a number with a tab or a newline
 abbrev pub piece : List ℕ → ℕ → ℕ → List ℕ
 piece word n end = word ++ field n end
 

@@ -5,19 +5,19 @@ use decimal::Number;
 use description::Description;
 use description::Dimension;
 use description::Kind;
-use ranges::Range;
 ghost use mathlib.Core.Path.{_≡_};
 ghost use Prim.Native.Nat.{ℕ, _+_, _≤_};
 ghost use lib.ListN.{length, drop};
 ghost use Rattle.answers.specs.Laid.{laid};
 ghost use Rattle.answers.specs.Runs.{filled};
 ghost use Rattle.decimal.specs.Write.{put};
-ghost use Rattle.report_text.specs.Lines.{fromLine};
+ghost use Rattle.text.specs.Write.{field};
+ghost use Rattle.text.specs.Code.Places.{AtLine, Wrote};
 ghost use Rattle.report_text.specs.Asked.{dimensionOf, bitsAt, askedOf};
-ghost use Rattle.report_text.specs.Text.{mostBytes, mostText, field, piece, refusedText, headerText, rowText};
+ghost use Rattle.report_text.specs.Text.{mostBytes, mostText, piece, refusedText, headerText, rowText};
 ghost use Rattle.report_text.specs.Text.{tileText, answerText, reportText};
-ghost use Rattle.report_text.specs.Code.Reading.{Starts, Parts, ReadLine, ReadSide, ReadWidths, ReadWindow};
-ghost use Rattle.report_text.specs.Code.Writing.{mostWritten, mostFound, kept, Wrote, Ended, listed};
+ghost use Rattle.report_text.specs.Code.Reading.{ReadLine, ReadSide, ReadWidths, ReadWindow};
+ghost use Rattle.report_text.specs.Code.Writing.{mostWritten, mostFound, Ended, listed};
 ghost use Rattle.report_text.specs.Code.Writing.{outcomeText, Renders};
 
 // Answers the length of the text. It stands at the start of the buffer if all of it fits there; else the buffer stays
@@ -183,13 +183,12 @@ fn read_asked(text: &[u8]) -> Asked
     let dimensions = first.number.value;
     let d = dimensions as usize;
     let widths = read_widths(text, first.next, d);
-    let bits = widths.bits;
     let kinds = widths.kinds;
     let fields = read_line(text, widths.next, MOST_NUMBER);
     let capacity = read_line(text, fields.next, MOST_NUMBER);
     let file_size = read_line(text, capacity.next, MOST_NUMBER);
     let data_size = read_line(text, file_size.next, MOST_NUMBER);
-    let lines = read_window(text, data_size.next, d, bits);
+    let lines = read_window(text, data_size.next, d, kinds);
     let sides = lines.sides;
     let description = Description {
         dimensions: dimensions,
@@ -204,7 +203,7 @@ fn read_asked(text: &[u8]) -> Asked
             & file_size.number.read
             & data_size.number.read
             & lines.good
-            & (lines.next == text.len()),
+            & (text.len() <= lines.next),
         description: description,
         file_size: file_size.number.value,
         data_size: data_size.number.value,
@@ -217,64 +216,31 @@ fn read_asked(text: &[u8]) -> Asked
 
 const MOST_NUMBER: u64 = 0xffff_ffff_ffff_ffff;
 
-// Where a line ends, and where the next one starts: after the newline, or at the end of the text.
-struct Span {
-    end: usize,
-    next: usize,
-}
-
-fn line_from(text: &[u8], at: usize) -> Span
-    requires { ⌜ at ≤ length (now text) ⌝ }
-    ensures { λ r. ⌜ Parts (now (text .entry)) at r ⌝ }
-{
-    let mut end = at;
-    while end < text.len() {
-        if text[end] == b'\n' {
-            return Span {
-                end: end,
-                next: end + 1,
-            };
-        }
-        end += 1;
-    }
-    Span {
-        end: end,
-        next: end,
-    }
-}
-
 struct Line {
     number: Number,
     next: usize,
 }
 
 fn read_line(text: &[u8], at: usize, most: u64) -> Line
-    requires { ⌜ at ≤ length (now text) ⌝ }
-    ensures { λ r. ⌜ ((k : ℕ) → drop at (now (text .entry)) ≡ fromLine k (now (text .entry))
-        → ReadLine (now (text .entry)) k most r) ⌝ }
+    ensures { λ r. ⌜ ((k : ℕ) → AtLine (now (text .entry)) k at → ReadLine (now (text .entry)) k most r) ⌝ }
 {
-    let span = line_from(text, at);
-    let end = span.end;
-    let number = decimal::read_at_most(&text[at..end], most);
-    Line {
-        number: number,
-        next: span.next,
-    }
+    let line = text::piece_from(text, at, b'\n');
+    let number = decimal::read_at_most(line, most);
+    let next = text::after(text, at + line.len());
+    Line { number, next }
 }
 
-// The lines of the kinds, as bits and as dimensions. A place past D has 64.
+// The lines of the kinds. A place past D has 64 bits.
 struct Widths {
     good: bool,
-    bits: [u64; 4],
     kinds: [Dimension; 4],
     next: usize,
 }
 
 fn read_widths(text: &[u8], at: usize, d: usize) -> Widths
-    requires { ⌜ (Starts (now text) 1 at) × (d ≤ 4) ⌝ }
+    requires { ⌜ (AtLine (now text) 1 at) × (d ≤ 4) ⌝ }
     ensures { λ r. ⌜ ReadWidths (now (text .entry)) d r ⌝ }
 {
-    let mut bits = [64u64; 4];
     let wide = dimension_of(64);
     let mut kinds = [wide; 4];
     let mut good = true;
@@ -283,7 +249,6 @@ fn read_widths(text: &[u8], at: usize, d: usize) -> Widths
     while i < d {
         let line = read_line(text, next, MOST_NUMBER);
         let width = line.number.value;
-        bits[i] = width;
         kinds[i] = dimension_of(width);
         good = good & ((width == 32) | (width == 64));
         next = line.next;
@@ -291,7 +256,6 @@ fn read_widths(text: &[u8], at: usize, d: usize) -> Widths
     }
     Widths {
         good: good,
-        bits: bits,
         kinds: kinds,
         next: next,
     }
@@ -314,38 +278,19 @@ struct SideLines {
     next: usize,
 }
 
-fn read_side(text: &[u8], at: usize, bits: u64) -> SideLines
-    requires { ⌜ at ≤ length (now text) ⌝ }
-    ensures { λ r. ⌜ ((k : ℕ) → drop at (now (text .entry)) ≡ fromLine k (now (text .entry))
-        → ReadSide (now (text .entry)) k bits r) ⌝ }
+fn read_side(text: &[u8], at: usize, kind: Kind) -> SideLines
+    ensures { λ r. ⌜ ((k : ℕ) → AtLine (now (text .entry)) k at → ReadSide (now (text .entry)) k kind r) ⌝ }
 {
-    let first = line_from(text, at);
-    let end = first.end;
-    let start = first.next;
-    let second = line_from(text, start);
-    let last = second.end;
-    let minimum = &text[at..end];
-    let maximum = &text[start..last];
-    if bits == 64 {
-        let low = decimal::read_i64(minimum);
-        let high = decimal::read_i64(maximum);
-        SideLines {
-            good: low.read & high.read,
-            side: Side {
-                range: Range::I64(low.value, high.value),
-            },
-            next: second.next,
-        }
-    } else {
-        let low = decimal::read_i32(minimum);
-        let high = decimal::read_i32(maximum);
-        SideLines {
-            good: low.read & high.read,
-            side: Side {
-                range: Range::I32(low.value, high.value),
-            },
-            next: second.next,
-        }
+    let minimum = text::piece_from(text, at, b'\n');
+    let start = text::after(text, at + minimum.len());
+    let maximum = text::piece_from(text, start, b'\n');
+    let next = text::after(text, start + maximum.len());
+    let read = range_text::read_range(kind, minimum, maximum);
+    let range = read.range;
+    SideLines {
+        good: read.read,
+        side: Side { range },
+        next,
     }
 }
 
@@ -356,8 +301,9 @@ struct WindowLines {
     next: usize,
 }
 
-fn read_window(text: &[u8], at: usize, d: usize, bits: [u64; 4]) -> WindowLines
-    requires { ⌜ (Starts (now text) (5 + d) at) × (d ≤ 4) × (bits ≡ filled (bitsAt (now text)) 64 d 4) ⌝ }
+fn read_window(text: &[u8], at: usize, d: usize, kinds: [Dimension; 4]) -> WindowLines
+    requires { ⌜ (AtLine (now text) (5 + d) at) × (d ≤ 4)
+        × (kinds ≡ filled (λ i. dimensionOf (bitsAt (now text) i)) (dimensionOf 64) d 4) ⌝ }
     ensures { λ r. ⌜ ReadWindow (now (text .entry)) d d r ⌝ }
 {
     let mut sides = boxes::no_box();
@@ -365,7 +311,9 @@ fn read_window(text: &[u8], at: usize, d: usize, bits: [u64; 4]) -> WindowLines
     let mut next = at;
     let mut i: usize = 0;
     while i < d {
-        let lines = read_side(text, next, bits[i]);
+        let dimension = kinds[i];
+        let kind = dimension.kind;
+        let lines = read_side(text, next, kind);
         let side = lines.side;
         sides[i] = side;
         good = good & lines.good;
@@ -379,42 +327,15 @@ fn read_window(text: &[u8], at: usize, d: usize, bits: [u64; 4]) -> WindowLines
     }
 }
 
-// What is written goes to a place of the text. The buffer has the text from byte `from` on, as many bytes as fit.
-
-fn keep(out: &mut [u8], from: usize, at: usize, byte: u8)
-    ensures { λ _. ⌜ now (out .exit) ≡ kept from (now (out .entry)) at byte ⌝ }
-{
-    if from <= at {
-        let place = at - from;
-        if place < out.len() {
-            out[place] = byte;
-        }
-    }
-}
-
-// The answer is where the next goes.
-fn write_word(word: &[u8], from: usize, out: &mut [u8], at: usize) -> usize
-    requires { ⌜ at + length (now word) ≤ mostWritten ⌝ }
-    ensures { λ r. ⌜ Wrote from (now (out .entry)) at (now (word .entry)) (now (out .exit)) r ⌝ }
-{
-    let mut i: usize = 0;
-    while i < word.len() {
-        keep(out, from, at + i, word[i]);
-        i += 1;
-    }
-    at + i
-}
+// What is written goes to a place of the text. The buffer has the text from byte `from` on, as many bytes as fit. The
+// answer is where the next goes.
 
 // A number, and the byte after it.
 fn write_field(n: u64, end: u8, from: usize, out: &mut [u8], at: usize) -> usize
     requires { ⌜ at + 21 ≤ mostWritten ⌝ }
     ensures { λ r. ⌜ (Wrote from (now (out .entry)) at (field n end) (now (out .exit)) r) × (r ≤ at + 21) ⌝ }
 {
-    let mut digits = [0u8; 20];
-    let count = decimal::write_u64(n, &mut digits, 0);
-    let last = write_word(&digits[..count], from, out, at);
-    keep(out, from, last, end);
-    last + 1
+    at + text::write_field(n, end, from, out, at)
 }
 
 fn write_piece(word: &[u8], n: u64, end: u8, from: usize, out: &mut [u8], at: usize) -> usize
@@ -422,7 +343,7 @@ fn write_piece(word: &[u8], n: u64, end: u8, from: usize, out: &mut [u8], at: us
     ensures { λ r. ⌜ (Wrote from (now (out .entry)) at (piece (now (word .entry)) n end) (now (out .exit)) r)
         × (r ≤ at + length (now (word .entry)) + 21) ⌝ }
 {
-    let next = write_word(word, from, out, at);
+    let next = at + text::write(word, from, out, at);
     write_field(n, end, from, out, next)
 }
 
@@ -515,7 +436,7 @@ fn write_outcome(
         (outcomeText outcome (now (offsets .entry)) (now (tiles .entry))) (now (out .exit)) r) × (r ≤ mostText) ⌝ }
 {
     if outcome.long {
-        return write_word(b"too long\n", from, out, 0);
+        return text::write(b"too long\n", from, out, 0);
     }
     if outcome.number != 0 {
         return write_refused(outcome.number, outcome.place, from, out);

@@ -1,28 +1,32 @@
 -- `report_text::read_line` meets its contract: the line from that place is line k. Assumes nothing.
 use mathlib.Core.Path.{ap, _∙_}
+use native.Mathlib.Omega.{arith}
+use lib.ListN.{length}
 use borrow.Author.Needs.{needs}
 use Rattle.decimal.specs.Read.{readNumber}
-use Rattle.report_text.proofs.Lines.{line-there, line-next}
+use Rattle.text.specs.Text.{newline}
+use Rattle.text.proofs.Pieces.{piece-inside}
+use Rattle.text.proofs.Lines.{this-line, past-line}
 use Rattle.report_text.proofs.read_line.Statement.{statement}
 use Rattle.report_text.proofs.read_line.Tie as tie
 
+add-after : tie.Need-add-after
+add-after c =
+    let l = c .before in
+    let x = l .before .before .args in
+    omega (arith, ap length (l .piece-from .ensures), piece-inside newline (x .text .now) (x .at))
+
 returns : tie.Need-returns
 returns c k here =
-    let l = c .before .before in
+    let n = c .before in
+    let l = n .before in
     let x = l .before .before .args in
-    let p = l .line-from .ensures in
+    let is = l .piece-from .ensures in
     record {
-      number = c .read-at-most .ensures ∙ ap (readNumber (x .most)) (line-there (x .text .now) k here p);
-      next = line-next (x .text .now) k here p;
+      number = n .read-at-most .ensures ∙ ap (readNumber (x .most)) (is ∙ this-line (x .text .now) k here);
+      next = past-line (x .text .now) k here is (c .after .ensures);
     }
 
 pub read-line-spec : {M : Type 1} → statement M
 read-line-spec =
-    tie.close
-    (tie.spec
-    (λ c κs. search needs)
-    (λ c. search needs)
-    (λ c. search needs)
-    (λ c. search needs)
-    (λ c κs. search needs)
-    returns)
+    tie.close (tie.spec (λ c κs. search needs) (λ c κs. search needs) add-after (λ c κs. search needs) returns)

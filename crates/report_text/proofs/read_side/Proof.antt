@@ -1,54 +1,39 @@
--- `report_text::read_side` meets its contract: the two lines from that place are lines k and k + 1. A signed local holds bits, so that
--- what is passed on from one is the number that they stand for. Assumes nothing.
-use mathlib.Core.Path.{ap, _∙_}
+-- `report_text::read_side` meets its contract: the two lines from that place are lines k and k + 1. Assumes nothing.
 use Prim.Native.Nat.{_+_}
-use mir.Syntax.{w32, w64}
+use mathlib.Core.Path.{_≡_, ap, _∙_}
+use native.Mathlib.Omega.{arith}
+use lib.ListN.{length}
 use borrow.Author.Needs.{needs}
-use borrow.Author.Tests.{eq-eqb, ne-eqb}
-use Rattle.decimal.specs.Read.{signed32, signed64}
-use Rattle.decimal.proofs.Signed.{signed-held}
-use Rattle.report_text.specs.Lines.{lineAt}
-use Rattle.report_text.specs.Asked.{sideOf, sideGood}
-use Rattle.report_text.proofs.Lines.{line-there, line-next, next-next}
+use Rattle.text.specs.Text.{newline}
+use Rattle.text.proofs.Pieces.{piece-inside}
+use Rattle.text.proofs.Lines.{this-line, past-line}
 use Rattle.report_text.proofs.read_side.Statement.{statement}
 use Rattle.report_text.proofs.read_side.Tie as tie
 
-returns : tie.Need-returns
-unfolding sideOf sideGood
-returns c k here =
-    let h = c .before .before .before .before in
-    let l = h .before in
-    let s = l .before .before .before .before in
-    let f = s .before in
-    let x = f .before .before .args in
-    let t = x .text .now in
-    let n = line-next t k here (f .line-from .ensures) in
-    let low = l .read-i64 .ensures ∙ ap signed64 (line-there t k here (f .line-from .ensures)) in
-    let high = h .read-i642 .ensures ∙ ap signed64 (line-there t (k + 1) (n .rest) (s .line-from2 .ensures)) in
-    let e = eq-eqb (x .bits) 64 (l .before .if1 .taken) in
-    record {
-      good = rw (e, low, high);
-      side = rw (e, low, high, signed-held w64 (lineAt k t), signed-held w64 (lineAt (k + 1) t));
-      next = next-next t k (line-next t (k + 1) (n .rest) (s .line-from2 .ensures));
-    }
+add-after : tie.Need-add-after
+add-after c =
+    let x = c .before .before .args in
+    omega (arith, ap length (c .piece-from .ensures), piece-inside newline (x .text .now) (x .at))
 
-returns-2 : tie.Need-returns-2
-unfolding sideOf sideGood
-returns-2 c k here =
-    let h = c .before .before .before .before in
-    let l = h .before in
-    let s = l .before .before .before .before in
-    let f = s .before in
-    let x = f .before .before .args in
-    let t = x .text .now in
-    let n = line-next t k here (f .line-from .ensures) in
-    let low = l .read-i32 .ensures ∙ ap signed32 (line-there t k here (f .line-from .ensures)) in
-    let high = h .read-i322 .ensures ∙ ap signed32 (line-there t (k + 1) (n .rest) (s .line-from2 .ensures)) in
-    let e = ne-eqb (x .bits) 64 (l .before .if1 .left) in
+add-after-2 : tie.Need-add-after-2
+add-after-2 c =
+    let n = c .before in
+    let x = n .before .before .before .args in
+    omega (arith, ap length (c .piece-from2 .ensures), piece-inside newline (x .text .now) (n .after .result))
+
+returns : tie.Need-returns
+returns c k here =
+    let m = c .before .before in
+    let l = m .before .before in
+    let t = l .before .before .args .text .now in
+    let next = past-line t k here (l .piece-from .ensures) (m .before .after .ensures) in
+    let low = l .piece-from .ensures ∙ this-line t k here in
+    let high = m .piece-from2 .ensures ∙ this-line t (k + 1) next in
+    let z : k + 1 + 1 ≡ k + 2 = omega arith in
     record {
-      good = rw (e, low, high);
-      side = rw (e, low, high, signed-held w32 (lineAt k t), signed-held w32 (lineAt (k + 1) t));
-      next = next-next t k (line-next t (k + 1) (n .rest) (s .line-from2 .ensures));
+      good = rw (c .read-range .ensures, low, high);
+      side = rw (c .read-range .ensures, low, high);
+      next = rw z at (past-line t (k + 1) next (m .piece-from2 .ensures) (c .before .after2 .ensures));
     }
 
 pub read-side-spec : {M : Type 1} → statement M
@@ -56,16 +41,10 @@ read-side-spec =
     tie.close
     (tie.spec
     (λ c κs. search needs)
-    (λ c κs. search needs)
-    (λ c. search needs)
-    (λ c. search needs)
-    (λ c. search needs)
-    (λ c. search needs)
-    (λ c. search needs)
-    (λ c. search needs)
+    add-after
     (λ c κs. search needs)
     (λ c κs. search needs)
+    add-after-2
     (λ c κs. search needs)
     (λ c κs. search needs)
-    returns
-    returns-2)
+    returns)

@@ -9,11 +9,11 @@ use Rattle.report_text.proofs.read_widths.Statement.{statement}
 use Rattle.report_text.proofs.read_widths.Tie as tie
 
 abbrev Inv-loop : tie.InvT-loop
-Inv-loop text at d bits₀ kinds₀ good₀ next₀ i₀ bits kinds good next i =
-    (i ≤ d) × (ReadWidths text i (record { good = good; bits = bits; kinds = kinds; next = next }))
+Inv-loop text at d kinds₀ good₀ next₀ i₀ kinds good next i =
+    (i ≤ d) × (ReadWidths text i (record { good = good; kinds = kinds; next = next }))
 
 abbrev μ-loop : tie.MeasureT-loop
-μ-loop text at d bits₀ kinds₀ good₀ next₀ i₀ bits kinds good next i = d - i
+μ-loop text at d kinds₀ good₀ next₀ i₀ kinds good next i = d - i
 
 loop-holds : tie.Need-loop-holds Inv-loop μ-loop
 loop-holds c =
@@ -25,7 +25,7 @@ loop-again c =
     let r = c .before in
     let l = r .before .before in
     let t = l .before .before .before .args .text .now in
-    (omega arith, widths-more t (l .loop .i) (omega arith) (l .loop .inv .1) (r .read-line .ensures _ (l .loop .inv .1 .next .rest)) (c .dimension-of2 .ensures))
+    (omega arith, widths-more t (l .loop .i) (omega arith) (l .loop .inv .1) (r .read-line .ensures _ (l .loop .inv .1 .next)) (c .dimension-of2 .ensures))
 
 returns : tie.Need-returns Inv-loop μ-loop
 returns c =
@@ -41,9 +41,7 @@ read-widths-spec =
     μ-loop
     (λ c κs. search needs)
     loop-holds
-    (λ c κs. c .before .loop .inv .1 .next .inside)
-    (λ c. omega arith)
-    (λ c. omega arith)
+    (λ c κs. search needs)
     (λ c κs. search needs)
     (λ c. omega arith)
     (λ c. omega arith)

@@ -7,16 +7,16 @@ use Rattle.answers.proofs.Filled.{filled-none}
 use Rattle.boxes.specs.Boxes.{noSide}
 use Rattle.report_text.specs.Asked.{windowLine, windowSide}
 use Rattle.report_text.specs.Code.Reading.{ReadWindow}
-use Rattle.report_text.proofs.Reading.{window-none, window-more, bits-back}
+use Rattle.report_text.proofs.Reading.{window-none, window-more, kind-back}
 use Rattle.report_text.proofs.read_window.Statement.{statement}
 use Rattle.report_text.proofs.read_window.Tie as tie
 
 abbrev Inv-loop : tie.InvT-loop
-Inv-loop text at d bits sides₀ good₀ next₀ i₀ sides good next i =
+Inv-loop text at d kinds sides₀ good₀ next₀ i₀ sides good next i =
     (i ≤ d) × (ReadWindow text d i (record { good = good; sides = sides; next = next }))
 
 abbrev μ-loop : tie.MeasureT-loop
-μ-loop text at d bits sides₀ good₀ next₀ i₀ sides good next i = d - i
+μ-loop text at d kinds sides₀ good₀ next₀ i₀ sides good next i = d - i
 
 loop-holds : tie.Need-loop-holds Inv-loop μ-loop
 loop-holds c =
@@ -27,11 +27,11 @@ loop-holds c =
 loop-again : tie.Need-loop-again Inv-loop μ-loop
 loop-again c =
     let r = c .before .before in
-    let l = r .before .before in
+    let l = r .before .before .before in
     let s = l .before .before .before in
     let x = s .args in
-    let side = r .read-side .ensures (windowLine (x .text .now) (x .d) (l .loop .i)) (l .loop .inv .1 .next .rest) in
-    (omega arith, window-more (x .text .now) (x .d) (l .loop .i) (omega arith) (l .loop .inv .1) (rw (bits-back (x .text .now) (x .d) (l .loop .i) (omega arith) (omega arith) (s .pre .2)) at side))
+    let side = r .read-side .ensures (windowLine (x .text .now) (x .d) (l .loop .i)) (l .loop .inv .1 .next) in
+    (omega arith, window-more (x .text .now) (x .d) (l .loop .i) (omega arith) (l .loop .inv .1) (rw (kind-back (x .text .now) (x .d) (l .loop .i) (omega arith) (omega arith) (s .pre .2)) at side))
 
 returns : tie.Need-returns Inv-loop μ-loop
 returns c =
@@ -49,8 +49,7 @@ read-window-spec =
     (λ c κs. search needs)
     loop-holds
     (λ c. omega arith)
-    (λ c. omega arith)
-    (λ c κs. c .before .loop .inv .1 .next .inside)
+    (λ c κs. search needs)
     (λ c. omega arith)
     (λ c. omega arith)
     (λ c. omega arith)

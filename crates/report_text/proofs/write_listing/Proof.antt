@@ -4,8 +4,9 @@ use mathlib.Core.Path.{_≡_, _∙_}
 use native.Mathlib.Omega.{arith}
 use lib.ListN.{getD}
 use Rattle.report_text.specs.Text.{tileText, tilesText}
-use Rattle.report_text.specs.Code.Writing.{Wrote}
-use Rattle.report_text.proofs.Writing.{wrote-append, wrote-nothing, wrote-size, tiles-none, tiles-more}
+use Rattle.text.specs.Code.Places.{Wrote}
+use Rattle.text.proofs.Writing.{wrote-append, wrote-nothing, wrote-size}
+use Rattle.report_text.proofs.Writing.{tiles-none, tiles-more}
 use borrow.Author.Needs.{needs}
 use Rattle.report_text.proofs.write_listing.Statement.{statement}
 use Rattle.report_text.proofs.write_listing.Tie as tie

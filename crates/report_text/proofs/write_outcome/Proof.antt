@@ -9,8 +9,8 @@ use Rattle.report_text.proofs.write_outcome.Tie as tie
 returns : tie.Need-returns
 unfolding outcomeText
 returns c =
-    let w = c .before .before .write-word .ensures in
-    (rw (c .before .before .before .before .before .if1 .taken) w, omega (arith, w .place))
+    let w = c .before .before .write .ensures in
+    (rw (c .before .before .before .before .before .if1 .taken) (record { place = omega (arith, w .0); there = w .1 }), omega (arith, w .0))
 
 returns-2 : tie.Need-returns-2
 unfolding outcomeText

@@ -2,7 +2,7 @@
 use native.Mathlib.Omega.{arith}
 use borrow.Author.Needs.{needs}
 use Rattle.report_text.specs.Text.{rowText}
-use Rattle.report_text.proofs.Writing.{wrote-append}
+use Rattle.text.proofs.Writing.{wrote-append}
 use Rattle.report_text.proofs.write_row.Statement.{statement}
 use Rattle.report_text.proofs.write_row.Tie as tie
 

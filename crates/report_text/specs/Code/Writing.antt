@@ -1,11 +1,11 @@
 -- What is handed on until the text is written. Nothing here is promised to a caller.
 -- Assumes nothing.
-use Prim.Native.Nat.{ℕ, suc, _+_, _-_, _≤_}
+use Prim.Native.Nat.{ℕ, _≤_}
 use mathlib.Core.Path.{_≡_}
 use mathlib.Core.Bool.{Bool, cond}
-use mathlib.Core.List.{List, [], _∷_, _++_}
-use lib.Dec.{leb, eqb}
-use lib.ListN.{length, set}
+use mathlib.Core.List.{List, _++_}
+use lib.Dec.{eqb}
+use lib.ListN.{length}
 use Rattle.report_text.specs.declared.Outcome.{Outcome}
 use Rattle.report_text.specs.Text.{tooLongText, refusedText, headerText, tilesText}
 
@@ -16,20 +16,6 @@ mostWritten = 1_000_000
 -- no more tiles are found, in a tree of at most 65,536 bytes
 abbrev pub mostFound : ℕ
 mostFound = 8_192
-
--- A buffer has a text from byte `from` on, as many bytes as fit. What it has after the byte at a place of the text was
--- written, and after a text from that place on was.
-abbrev pub kept : ℕ → List ℕ → ℕ → ℕ → List ℕ
-kept from out at b = cond (leb from at) (set out (at - from) b) out
-
-unfoldable pub seen : ℕ → List ℕ → ℕ → List ℕ → List ℕ
-seen from out at [] = out
-seen from out at (b ∷ t) = seen from (kept from out at b) (suc at) t
-
--- A text was written at a place, and where the next one goes.
-pub record Wrote (from : ℕ) (before : List ℕ) (at : ℕ) (t : List ℕ) (after : List ℕ) (next : ℕ) : Type 0 where
-  pub place : next ≡ at + length t
-  pub there : after ≡ seen from before at t
 
 -- a file is too long, or something is refused: nothing is listed
 pub record Ended (long : Bool) (number place : ℕ) (r : Outcome) : Type 0 where

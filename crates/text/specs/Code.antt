@@ -1,0 +1,2 @@
+-- The code's own business: nothing below is promised to a caller.
+pub mod Places
