@@ -9,14 +9,14 @@ use Rattle.description.specs.declared.Description.{Description}
 use Rattle.footer.specs.declared.Checked.{Checked}
 use Rattle.footer.specs.Fields.{start}
 use Rattle.footer.specs.Checks.{footerRefusal}
-use Rattle.footer.specs.Answer.{acceptedChecked, refusedChecked, checkedAnswer, checkedAnswerBy, schemaName, schemaNameBy}
+use Rattle.footer.specs.Answer.{acceptedChecked, refusedChecked, entryChecked, entryName, checkedAnswer, schemaName}
 use Rattle.c_cells.specs.Places.{namePlaces}
 
 -- the name's places are those of the schema name
 module _ (d : Description) (F : ℕ) (bytes : List ℕ) where
   name-part : take (checkedAnswer d F bytes .«name_size») (drop (cond (eqb (checkedAnswer d F bytes .number) 0) 12 0) bytes)
       ≡ schemaName d F bytes
-  unfolding schemaNameBy checkedAnswerBy acceptedChecked refusedChecked start
+  unfolding entryName entryChecked acceptedChecked refusedChecked start
   name-part = go (eqb (footerRefusal d F bytes .number) 0) refl
     where
       go : (t : Bool) → t ≡ eqb (footerRefusal d F bytes .number) 0

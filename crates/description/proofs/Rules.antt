@@ -15,7 +15,7 @@ pub record AgreeOn (a b : Rules) (n : ℕ) : Type 0 where
   pub tiles : outside leastTiles (a .tiles) n ≡ outside leastTiles (b .tiles) n
 
 pub record Agree (a b : Rules) (d : Description) (n : ℕ) : Type 0 where
-  pub described : a .described d ≡ b .described d
+  pub further : a .further d ≡ b .further d
   pub number : AgreeOn a b n
 
 -- n within both limits
@@ -23,4 +23,4 @@ pub few-tiles : (n : ℕ) → n ≤ earlier .tiles → AgreeOn current earlier n
 few-tiles n h = record { tiles = rw (le-ltb (current .tiles) n (omega arith), le-ltb (earlier .tiles) n h) }
 
 pub few : (d : Description) (n : ℕ) → n ≤ earlier .tiles → Agree current earlier d n
-few d n h = record { described = refl; number = few-tiles n h }
+few d n h = record { further = refl; number = few-tiles n h }

@@ -2,21 +2,25 @@
 -- limits and after it.
 -- Assumes nothing.
 use Prim.Native.Nat.{ℕ}
+use Rattle.answers.specs.Refusals.{none}
 use Rattle.answers.specs.declared.Refusal.{Refusal}
 use Rattle.description.specs.declared.Description.{Description}
 use Rattle.description.specs.Limits.{mostTiles}
-use Rattle.description.specs.Description.{descriptionRefusal}
 
 pub record Rules : Type 0 where
-  -- what is said of a description, before all else
-  pub described : Description → Refusal
+  -- what is said of a description after 1, before all else
+  pub further : Description → Refusal
   -- the most tiles n
   pub tiles : ℕ
 
+-- by which this refusal, whatever the description, is said after 1
+abbrev pub rulesBy : Refusal → Rules
+rulesBy further = record { further = λ d. further; tiles = mostTiles }
+
 -- those of this library
 abbrev pub current : Rules
-current = record { described = descriptionRefusal; tiles = mostTiles }
+current = rulesBy none
 
 -- those of the library when a fragment had at most 65,536 tiles
 abbrev pub earlier : Rules
-earlier = record { described = descriptionRefusal; tiles = 65_536 }
+earlier = record { further = λ d. none; tiles = 65_536 }

@@ -19,9 +19,9 @@ use Rattle.description.specs.Kinds.{key, isNan, isInfinite, atMost}
 use Rattle.ranges.specs.Ranges.{endsAt, endsOf, hasNan, inside, meets}
 use Rattle.verdicts.specs.Verdicts.{hasInfinity, isReversed, verdict}
 use Rattle.boxes.specs.Windows.{sideRefusal, windowRefusal}
-use Rattle.footer.specs.Answer.{totalCells, entries, refusedFooter, acceptedFooter, footerAnswer, footerAnswerBy}
-use Rattle.footer.specs.Checks.{noFlag, flagSet, numberOutside, fileOffsetsRefusal, footerRefusalBy}
-use Rattle.footer.specs.Fields.{start, footerBytes}
+use Rattle.footer.specs.Answer.{totalCells, entries, refusedFooter, acceptedFooter, footerAnswer, entryAnswer}
+use Rattle.footer.specs.Fields.{noFlag, flagIs, numberOutside, fileOffsetsRefusal, start, footerBytes}
+use Rattle.footer.specs.Checks.{entryRefusal}
 use Rattle.lists.specs.Lists.{listRefusalBy, entriesRefusalBy}
 use Rattle.lists.specs.Offsets.{offsetsRefusal, offsetsRefusalBy}
 use Rattle.order.specs.Key.{signedKey}
@@ -121,5 +121,5 @@ stated =
     ∷ []
 
 starred : worked ≡ stated
-unfolding first over boxOf rangesRefusal boxInside boxRefusal boxMeets descriptionRefusal sideStart boxBytes key isNan isInfinite atMost endsAt endsOf hasNan hasInfinity isReversed verdict inside meets sideRefusal windowRefusal totalCells entries refusedFooter acceptedFooter footerAnswerBy noFlag flagSet numberOutside fileOffsetsRefusal footerRefusalBy start footerBytes listRefusalBy entriesRefusalBy offsetsRefusalBy signedKey little firstOfTwo secondOfTwo frontRefusal sizeRefusal countsRefusal shapeRefusal rootRefusal innerRefusal levelRefusal boxesRefusal bodyRefusal openAnswerBy askedRefusalBy queryRefusalBy meeting queryAnswerBy queryBufferBy up boxes children heightAbove height levels allBoxes boxesAbove levelStart bodyBytes looked found le described footerOf box treeA window asked opened told sized worked stated
+unfolding first over boxOf rangesRefusal boxInside boxRefusal boxMeets descriptionRefusal sideStart boxBytes key isNan isInfinite atMost endsAt endsOf hasNan hasInfinity isReversed verdict inside meets sideRefusal windowRefusal totalCells entries refusedFooter acceptedFooter entryAnswer noFlag flagIs numberOutside fileOffsetsRefusal entryRefusal start footerBytes listRefusalBy entriesRefusalBy offsetsRefusalBy signedKey little firstOfTwo secondOfTwo frontRefusal sizeRefusal countsRefusal shapeRefusal rootRefusal innerRefusal levelRefusal boxesRefusal bodyRefusal openAnswerBy askedRefusalBy queryRefusalBy meeting queryAnswerBy queryBufferBy up boxes children heightAbove height levels allBoxes boxesAbove levelStart bodyBytes looked found le described footerOf box treeA window asked opened told sized worked stated
 starred = refl

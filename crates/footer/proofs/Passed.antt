@@ -12,16 +12,20 @@ use Rattle.answers.specs.Refusals.{none}
 use Rattle.answers.specs.Checks.{otherwise, first}
 use Rattle.answers.proofs.Checks.{clear, check-clear, both-clear}
 use Rattle.description.specs.declared.Description.{Description}
-use Rattle.description.specs.Limits.{leastName, mostName, leastTiles, mostTiles}
+use Rattle.description.specs.Limits.{leastName, mostName}
 use Rattle.description.specs.Description.{sidesOf, boxBytes}
+use Rattle.description.specs.Rules.{current}
 use Rattle.boxes.specs.Boxes.{rangesRefusal}
 use Rattle.description.proofs.Limits.{within, Kept, kept}
 use Rattle.footer.specs.declared.Checked.{Checked}
-use Rattle.footer.specs.Fields.{start, footerBytes, nameSizeOf, numberOf, tilesOf, lastCellsOf, domainBytes}
-use Rattle.footer.specs.Checks.{numberOutside, headChecks, sizeChecks, fieldChecks, footerRefusal}
-use Rattle.footer.specs.Answer.{acceptedChecked, refusedChecked, checkedAnswer, checkedAnswerBy}
+use Rattle.footer.specs.Fields.{start, footerBytes, nameSizeOf, numberOf, tilesOf, lastCellsOf, domainBytes, numberOutside}
+use Rattle.footer.specs.declared.Entry.{Entry}
+use Rattle.footer.specs.Checks.{sparseBy, entryRefusal, footerRefusal}
+use Rattle.footer.specs.Code.Places.{headChecks, sizeChecks, checksBeforeTiles, checksFromTiles}
+use Rattle.footer.specs.Answer.{acceptedChecked, refusedChecked, entryChecked, checkedAnswer}
 use Rattle.footer.proofs.Domain.{ranges-anywhere}
 use Rattle.footer.proofs.Fields.{footer-bytes, start-domain}
+use Rattle.footer.proofs.Offsets.{offsets-run}
 use Rattle.footer.proofs.Parts.{footer-parts}
 
 -- what the checks before any other field leave
@@ -30,55 +34,55 @@ pub record Head (d : Description) (footer : List ℕ) : Type 0 where
   pub some-name : leastName ≤ nameSizeOf footer
   pub most-name : nameSizeOf footer ≤ mostName
 
-module _ (d : Description) (F : ℕ) (footer : List ℕ) where
-  pub head-passed : first (headChecks d footer) .number ≡ 0 → Head d footer
+module _ (entry : Entry) (d : Description) (F : ℕ) (footer : List ℕ) where
+  pub head-passed : first (headChecks entry d footer) .number ≡ 0 → Head d footer
   unfolding numberOutside start
   head-passed h =
       let a = clear _ _ h in
       let b = clear _ _ (a .1) in
       let e = clear _ _ (b .1) in
       let f = clear _ _ (e .1) in
-      let n = within leastName mostName (nameSizeOf footer) (check-clear _ _ _ (omega arith) (f .0)) in
+      let g = clear _ _ (f .1) in
+      let n = within leastName mostName (nameSizeOf footer) (check-clear _ _ _ (omega arith) (g .0)) in
       record { description = kept d (a .0); some-name = n .0; most-name = n .1 }
 
-  pub sizes-passed : first (sizeChecks d footer F) .number ≡ 0 → (length footer ≡ footerBytes d footer) × (footerBytes d footer ≤ F)
+  pub sizes-passed : first (sizeChecks entry d footer F) .number ≡ 0 → (length footer ≡ footerBytes d footer) × (footerBytes d footer ≤ F)
   sizes-passed h =
       let a = clear _ _ h in
       let b = clear _ _ (a .1) in
       (eqb-true _ _ (not-false _ (check-clear _ _ _ (omega arith) (a .0))), ltb-false _ _ (check-clear _ _ _ (omega arith) (b .0)))
 
-  pub record Passed : Type 0 where
+  pub record PassedBy : Type 0 where
     pub head : Head d footer
     pub all-bytes : length footer ≡ footerBytes d footer
     pub in-file : footerBytes d footer ≤ F
     -- the domain has no NaN and no reversed range
     pub ranges : rangesRefusal (d .kinds) (sidesOf (d .dimensions)) (domainBytes d footer) (start d footer "domain") .number ≡ 0
-    pub some-tiles : leastTiles ≤ tilesOf d footer
-    pub most-tiles : tilesOf d footer ≤ mostTiles
-    pub some-last : 1 ≤ lastCellsOf d footer
-    pub most-last : lastCellsOf d footer ≤ d .capacity
+    pub some-tiles : entry .least ≤ tilesOf d footer
+    pub most-tiles : tilesOf d footer ≤ entry .most
+    pub last : entry .cells ≡ true → (1 ≤ lastCellsOf d footer) × (lastCellsOf d footer ≤ d .capacity)
     -- the length field reads 8 less than the footer's bytes
     pub length-field : numberOf d footer "length" + 8 ≡ footerBytes d footer
 
-  pub passed : footerRefusal d F footer .number ≡ 0 → Passed
+  pub passed-by : entryRefusal entry d F footer .number ≡ 0 → PassedBy
   unfolding numberOutside
-  passed h =
-      let b = both-clear (first (headChecks d footer)) (otherwise (first (sizeChecks d footer F)) (first (fieldChecks d footer F))) (rw (footer-parts d F footer) at h) in
-      let rest = both-clear (first (sizeChecks d footer F)) (first (fieldChecks d footer F)) (b .1) in
+  passed-by h =
+      let b = both-clear (first (headChecks entry d footer)) _ (rw (footer-parts entry d F footer) at h) in
+      let rest = both-clear (first (sizeChecks entry d footer F)) _ (b .1) in
       let size = sizes-passed (rest .0) in
-      let l1 = clear _ _ (rest .1) in
+      let fields = both-clear (first (checksBeforeTiles entry d footer)) (first (checksFromTiles entry d footer F)) (rest .1) in
+      let l1 = clear _ _ (fields .0) in
       let l2 = clear _ _ (l1 .1) in
       let l3 = clear _ _ (l2 .1) in
       let l4 = clear _ _ (l3 .1) in
       let l5 = clear _ _ (l4 .1) in
-      let l6 = clear _ _ (l5 .1) in
+      let l6 = clear _ _ (fields .1) in
       let l7 = clear _ _ (l6 .1) in
       let l8 = clear _ _ (l7 .1) in
       let l9 = clear _ _ (l8 .1) in
-      let l10 = clear _ _ (l9 .1) in
+      let l10 = clear _ _ (rw (offsets-run entry d F footer) at (l9 .1)) in
       let l11 = clear _ _ (l10 .1) in
-      let tiles = within leastTiles mostTiles (tilesOf d footer) (check-clear _ _ _ (omega arith) (l6 .0)) in
-      let last = within 1 (d .capacity) (lastCellsOf d footer) (check-clear _ _ _ (omega arith) (l7 .0)) in
+      let tiles = within (entry .least) (entry .most) (tilesOf d footer) (check-clear _ _ _ (omega arith) (l6 .0)) in
       let reads =
       eqb-true (numberOf d footer "length") (footerBytes d footer - 8) (not-false _ (check-clear _ _ _ (omega arith) (l11 .0))) in
       record {
@@ -88,35 +92,35 @@ module _ (d : Description) (F : ℕ) (footer : List ℕ) where
         ranges = l5 .0;
         some-tiles = tiles .0;
         most-tiles = tiles .1;
-        some-last = last .0;
-        most-last = last .1;
+        last = λ has. within 1 (d .capacity) (lastCellsOf d footer) (check-clear _ _ _ (omega arith) (rw has at (l7 .0)));
         length-field = omega (arith, reads, footer-bytes d footer);
       }
 
   -- the answer by that test
-  pub checked-passed : footerRefusal d F footer .number ≡ 0 → checkedAnswer d F footer ≡ acceptedChecked d footer
-  unfolding checkedAnswerBy
+  pub checked-passed : entryRefusal entry d F footer .number ≡ 0 → entryChecked entry d F footer ≡ acceptedChecked d footer
+  unfolding entryChecked
   checked-passed h = rw (eq-eqb _ 0 h)
 
-  pub checked-refused : (footerRefusal d F footer .number ≡ 0 → ⊥)
-      → checkedAnswer d F footer ≡ refusedChecked (footerRefusal d F footer .number) (footerRefusal d F footer .place)
-  unfolding checkedAnswerBy
-  checked-refused h = rw (ne-eqb _ 0 h)
+  pub refused-by : (entryRefusal entry d F footer .number ≡ 0 → ⊥)
+      → entryChecked entry d F footer ≡ refusedChecked (entryRefusal entry d F footer .number) (entryRefusal entry d F footer .place)
+  unfolding entryChecked
+  refused-by h = rw (ne-eqb _ 0 h)
 
   -- the refusal's number is the answer's
-  pub checked-number : checkedAnswer d F footer .number ≡ footerRefusal d F footer .number
-  unfolding checkedAnswerBy acceptedChecked refusedChecked
-  checked-number = go (eqb (footerRefusal d F footer .number) 0) refl
+  pub number-by : entryChecked entry d F footer .number ≡ entryRefusal entry d F footer .number
+  unfolding entryChecked acceptedChecked refusedChecked
+  number-by = go (eqb (entryRefusal entry d F footer .number) 0) refl
     where
-      go : (t : Bool) → eqb (footerRefusal d F footer .number) 0 ≡ t → checkedAnswer d F footer .number ≡ footerRefusal d F footer .number
+      go : (t : Bool) → eqb (entryRefusal entry d F footer .number) 0 ≡ t
+          → entryChecked entry d F footer .number ≡ entryRefusal entry d F footer .number
       go true e = rw e (sym (eqb-true _ 0 e))
       go false e = rw e
 
   -- What a caller has of the small answer where it is not refused: the box of the domain is there whole, and its ranges
   -- are sound at any place.
-  pub record Ready (c : Checked) : Type 0 where
-    pub not-refused : footerRefusal d F footer .number ≡ 0
-    pub pass : Passed
+  pub record ReadyBy (c : Checked) : Type 0 where
+    pub not-refused : entryRefusal entry d F footer .number ≡ 0
+    pub pass : PassedBy
     pub checked : c ≡ acceptedChecked d footer
     pub tiles : c .tiles ≡ tilesOf d footer
     pub last-cells : c .«last_cells» ≡ lastCellsOf d footer
@@ -128,11 +132,11 @@ module _ (d : Description) (F : ℕ) (footer : List ℕ) where
   there : length footer ≡ footerBytes d footer → start d footer "domain" + boxBytes d ≤ length footer
   there h = omega (arith, footer-bytes d footer, start-domain d footer)
 
-  pub ready : (c : Checked) → c ≡ checkedAnswer d F footer → c .number ≡ 0 → Ready c
+  pub ready-by : (c : Checked) → c ≡ entryChecked entry d F footer → c .number ≡ 0 → ReadyBy c
   unfolding acceptedChecked
-  ready c e h =
-      let z = sym checked-number ∙ sym (ap (λ (x : Checked). x .number) e) ∙ h in
-      let a = passed z in
+  ready-by c e h =
+      let z = sym number-by ∙ sym (ap (λ (x : Checked). x .number) e) ∙ h in
+      let a = passed-by z in
       rw (e ∙ checked-passed z) (record {
         not-refused = z;
         pass = a;
@@ -144,3 +148,27 @@ module _ (d : Description) (F : ℕ) (footer : List ℕ) where
         domain-bytes = refl;
         ranges = λ at. ranges-anywhere (d .kinds) (sidesOf (d .dimensions)) (domainBytes d footer) (start d footer "domain") at (a .ranges);
       })
+
+-- by the sparse entry and the rules of this library
+module _ (d : Description) (F : ℕ) (footer : List ℕ) where
+  abbrev own : Entry
+  own = sparseBy current d
+
+  abbrev pub Passed : Type 0
+  Passed = PassedBy own d F footer
+
+  pub passed : footerRefusal d F footer .number ≡ 0 → Passed
+  passed = passed-by own d F footer
+
+  pub checked-refused : (footerRefusal d F footer .number ≡ 0 → ⊥)
+      → checkedAnswer d F footer ≡ refusedChecked (footerRefusal d F footer .number) (footerRefusal d F footer .place)
+  checked-refused = refused-by own d F footer
+
+  pub checked-number : checkedAnswer d F footer .number ≡ footerRefusal d F footer .number
+  checked-number = number-by own d F footer
+
+  abbrev pub Ready : Checked → Type 0
+  Ready = ReadyBy own d F footer
+
+  pub ready : (c : Checked) → c ≡ checkedAnswer d F footer → c .number ≡ 0 → Ready c
+  ready = ready-by own d F footer

@@ -20,26 +20,27 @@ use Rattle.description.specs.Rules.{Rules, current, earlier}
 use Rattle.description.proofs.Tests.{or-true}
 use Rattle.description.proofs.Limits.{within}
 use Rattle.description.proofs.Rules.{Agree, few}
-use Rattle.footer.specs.Fields.{start, tilesOf}
-use Rattle.footer.specs.Checks.{numberOutside, headChecksBy, sizeChecks, checksBeforeTiles, checksFromTilesBy, footerRefusalBy}
+use Rattle.footer.specs.Fields.{numberOutside, fieldsOf, until, from, start, tilesOf}
+use Rattle.footer.specs.Checks.{sparseBy, frontChecks, checksOf, entryRefusal, footerRefusalBy}
+use Rattle.footer.specs.Answer.{entryChecked, entryAnswer, entryName}
 use Rattle.footer.specs.Answer.{checkedAnswer, checkedAnswerBy, footerAnswer, footerAnswerBy, schemaName, schemaNameBy}
 use Rattle.footer.specs.Answer.{tileCells, tileCellsBy, allCells, allCellsBy}
 
 module _ {a b : Rules} (d : Description) (F : ℕ) (footer : List ℕ) (same : Agree a b d (tilesOf d footer)) where
   pub same-refusal : footerRefusalBy a d F footer ≡ footerRefusalBy b d F footer
-  unfolding footerRefusalBy numberOutside
-  same-refusal = rw (same .described, same .number .tiles)
+  unfolding entryRefusal numberOutside
+  same-refusal = rw (same .further, same .number .tiles)
 
   pub same-checked : checkedAnswerBy a d F footer ≡ checkedAnswerBy b d F footer
-  unfolding checkedAnswerBy
+  unfolding entryChecked
   same-checked = rw same-refusal
 
   pub same-footer : footerAnswerBy a d F footer ≡ footerAnswerBy b d F footer
-  unfolding footerAnswerBy
+  unfolding entryAnswer
   same-footer = rw same-refusal
 
   pub same-name : schemaNameBy a d F footer ≡ schemaNameBy b d F footer
-  unfolding schemaNameBy
+  unfolding entryName
   same-name = rw same-checked
 
   pub same-cells : (i : ℕ) → tileCellsBy a d F footer i ≡ tileCellsBy b d F footer i
@@ -73,22 +74,22 @@ as-before d F footer h =
 module _ (rules : Rules) (d : Description) (F : ℕ) (footer : List ℕ) where
   -- the checks before n, in their order
   abbrev pub beforeTiles : List Refusal
-  beforeTiles = headChecksBy rules d footer ++ (sizeChecks d footer F ++ checksBeforeTiles d footer)
+  beforeTiles = frontChecks (sparseBy rules d) d footer ++ checksOf (sparseBy rules d) d F footer (until "tiles" (fieldsOf d footer))
 
   -- and those from n on
   abbrev fromTiles : List Refusal
-  fromTiles = checksFromTilesBy rules d footer F
+  fromTiles = checksOf (sparseBy rules d) d F footer (from "tiles" (fieldsOf d footer))
 
   parted : footerRefusalBy rules d F footer ≡ otherwise (first beforeTiles) (first fromTiles)
-  unfolding footerRefusalBy
+  unfolding entryRefusal
   parted = first-append beforeTiles fromTiles
 
-  -- A footer that passes has at most as many tiles as the rules have it.
-  pub no-more : footerRefusalBy rules d F footer .number ≡ 0 → tilesOf d footer ≤ rules .tiles
+  -- A footer that passes has an n within the rules' limits.
+  pub tiles-within : footerRefusalBy rules d F footer .number ≡ 0 → (leastTiles ≤ tilesOf d footer) × (tilesOf d footer ≤ rules .tiles)
   unfolding numberOutside
-  no-more h =
+  tiles-within h =
       let from = both-clear (first beforeTiles) (first fromTiles) (rw parted at h) .1 in
-      within leastTiles (rules .tiles) (tilesOf d footer) (check-clear _ _ _ (omega arith) (clear _ _ from .0)) .1
+      within leastTiles (rules .tiles) (tilesOf d footer) (check-clear _ _ _ (omega arith) (clear _ _ from .0))
 
   -- A larger n, in a footer that is sound up to there, is refused with 10 at its start.
   pub too-many : first beforeTiles .number ≡ 0 → rules .tiles < tilesOf d footer

@@ -16,7 +16,8 @@ use Rattle.footer.specs.declared.Checked.{Checked}
 use Rattle.footer.specs.declared.Footer.{Footer}
 use Rattle.footer.specs.Fields.{start, nameSizeOf, byteOf, numberOf, tilesOf, lastCellsOf, domainBytes}
 use Rattle.description.specs.Rules.{Rules, current}
-use Rattle.footer.specs.Checks.{footerRefusalBy}
+use Rattle.footer.specs.declared.Entry.{Entry}
+use Rattle.footer.specs.Checks.{sparseBy, entryRefusal}
 
 -- Tile i, counted from 0, holds C cells, the last one its own number, any i from n on none.
 unfoldable pub cellsOf : ℕ → ℕ → ℕ → ℕ → ℕ
@@ -130,22 +131,33 @@ module _ (d : Description) (footer : List ℕ) where
     length = numberOf d footer "length";
   }
 
--- The answers, and the further requests.
-module _ (rules : Rules) (d : Description) (F : ℕ) (footer : List ℕ) where
+-- The answers, and the further requests, by an entry.
+module _ (entry : Entry) (d : Description) (F : ℕ) (footer : List ℕ) where
   abbrev pub unlessRefused : {A : Type 0} → A → (ℕ → ℕ → A) → A
   unlessRefused answer refused =
-      cond (eqb (footerRefusalBy rules d F footer .number) 0) answer
-      (refused (footerRefusalBy rules d F footer .number) (footerRefusalBy rules d F footer .place))
+      cond (eqb (entryRefusal entry d F footer .number) 0) answer
+      (refused (entryRefusal entry d F footer .number) (entryRefusal entry d F footer .place))
 
-  unfoldable pub checkedAnswerBy : Checked
-  checkedAnswerBy = unlessRefused (acceptedChecked d footer) refusedChecked
+  unfoldable pub entryChecked : Checked
+  entryChecked = unlessRefused (acceptedChecked d footer) refusedChecked
 
-  unfoldable pub footerAnswerBy : Footer
-  footerAnswerBy = unlessRefused (acceptedFooter d footer) refusedFooter
+  unfoldable pub entryAnswer : Footer
+  entryAnswer = unlessRefused (acceptedFooter d footer) refusedFooter
 
   -- the schema name as that part of the lent footer; for a footer that is refused an empty part
-  unfoldable pub schemaNameBy : List ℕ
-  schemaNameBy = take (checkedAnswerBy .«name_size») (drop (start d footer "name") footer)
+  unfoldable pub entryName : List ℕ
+  entryName = take (entryChecked .«name_size») (drop (start d footer "name") footer)
+
+-- by the sparse entry and by rules
+module _ (rules : Rules) (d : Description) (F : ℕ) (footer : List ℕ) where
+  abbrev pub checkedAnswerBy : Checked
+  checkedAnswerBy = entryChecked (sparseBy rules d) d F footer
+
+  abbrev pub footerAnswerBy : Footer
+  footerAnswerBy = entryAnswer (sparseBy rules d) d F footer
+
+  abbrev pub schemaNameBy : List ℕ
+  schemaNameBy = entryName (sparseBy rules d) d F footer
 
   -- the cells of tile i, and of the whole; for a refused footer both are 0
   unfoldable pub tileCellsBy : ℕ → ℕ

@@ -7,13 +7,39 @@ ghost use mathlib.Core.Path.{_≡_};
 ghost use Prim.Native.Nat.{_+_, _*_, _≤_};
 ghost use lib.ListN.{length, getD, take, drop};
 ghost use Rattle.answers.specs.Checks.{first};
+ghost use Rattle.answers.specs.Refusals.{lastCells};
+ghost use Rattle.description.specs.Limits.{mostTiles};
 ghost use Rattle.description.specs.Description.{boxBytes, sidesOf};
-ghost use Rattle.description.specs.Rules.{current};
 ghost use Rattle.boxes.specs.Boxes.{rangesRefusal};
-ghost use Rattle.footer.specs.Checks.{noFlag, flagSet, numberOutside, fileOffsetsRefusal, headChecks};
-ghost use Rattle.footer.specs.Checks.{checksBeforeTiles, checksFromTilesBy, footerRefusal};
-ghost use Rattle.footer.specs.Answer.{checkedAnswer};
-ghost use Rattle.footer.specs.Code.Places.{BeforeTiles, FromTiles};
+ghost use Rattle.footer.specs.Fields.{noFlag, flagIs, numberOutside, fileOffsetsRefusal, onlyIf};
+ghost use Rattle.footer.specs.Checks.{sparse, entryRefusal};
+ghost use Rattle.footer.specs.Answer.{entryChecked, checkedAnswer};
+ghost use Rattle.footer.specs.Code.Places.{headChecks, checksBeforeTiles, checksFromTiles, BeforeTiles, FromTiles};
+
+// What differs between the entries that a footer is read by: what is said of the description after 1; the dense flag
+// that is refused; the least and the most tiles; whether the last tile's cells are checked.
+pub struct Entry {
+    pub further: Refusal,
+    pub flag: u64,
+    pub least: u64,
+    pub most: u64,
+    pub cells: bool,
+}
+
+impl Entry {
+    // That of a sparse fragment.
+    pub fn sparse(further: Refusal) -> Entry
+        ensures { λ r. ⌜ r ≡ sparse further mostTiles ⌝ }
+    {
+        Entry {
+            further: further,
+            flag: 1,
+            least: Description::LEAST_TILES,
+            most: Description::MOST_TILES,
+            cells: true,
+        }
+    }
+}
 
 // What opening a tree, the name and the cells need of a footer. `domain` is the start of the domain's box, 0 where
 // refused.
@@ -60,7 +86,19 @@ pub struct Footer {
 pub fn check(description: Description, file_size: u64, bytes: &[u8]) -> Checked
     ensures { λ r. ⌜ r ≡ checkedAnswer description «file_size» (now (bytes .entry)) ⌝ }
 {
-    let told = check_footer(description, file_size, bytes);
+    check_by(
+        Entry::sparse(Refusal::none()),
+        description,
+        file_size,
+        bytes,
+    )
+}
+
+// The same by an entry, whatever it is.
+pub fn check_by(entry: Entry, description: Description, file_size: u64, bytes: &[u8]) -> Checked
+    ensures { λ r. ⌜ r ≡ entryChecked entry description «file_size» (now (bytes .entry)) ⌝ }
+{
+    let told = check_footer(entry, description, file_size, bytes);
     if told.number != 0 {
         return Checked {
             number: told.number,
@@ -85,10 +123,10 @@ pub fn check(description: Description, file_size: u64, bytes: &[u8]) -> Checked
 }
 
 // All checks in their order.
-fn check_footer(description: Description, file_size: u64, bytes: &[u8]) -> Refusal
-    ensures { λ r. ⌜ r ≡ footerRefusal description «file_size» (now (bytes .entry)) ⌝ }
+fn check_footer(entry: Entry, description: Description, file_size: u64, bytes: &[u8]) -> Refusal
+    ensures { λ r. ⌜ r ≡ entryRefusal entry description «file_size» (now (bytes .entry)) ⌝ }
 {
-    let head = check_head(description, bytes);
+    let head = check_head(entry, description, bytes);
     if head.number != 0 {
         return head;
     }
@@ -104,14 +142,16 @@ fn check_footer(description: Description, file_size: u64, bytes: &[u8]) -> Refus
     if size.number != 0 {
         return size;
     }
-    let before = check_before_tiles(description, bytes, dense, tiles);
-    before.or(check_from_tiles(description, file_size, bytes, tiles))
+    // Said last, but asked first: in the other order the compiled loop over the offsets has a register less.
+    let from = check_from_tiles(entry, description, file_size, bytes, tiles);
+    check_before_tiles(entry, description, bytes, dense, tiles).or(from)
 }
 
 // The description; then the two fields that the places of all others go by.
-fn check_head(description: Description, bytes: &[u8]) -> Refusal
-    ensures { λ r. ⌜ r ≡ first (headChecks description (now (bytes .entry))) ⌝ }
+fn check_head(entry: Entry, description: Description, bytes: &[u8]) -> Refusal
+    ensures { λ r. ⌜ r ≡ first (headChecks entry description (now (bytes .entry))) ⌝ }
 {
+    let further = entry.further;
     let n = bytes.len();
     let unknown = description::outside(
         Description::LEAST_VERSION as u64,
@@ -120,6 +160,7 @@ fn check_head(description: Description, bytes: &[u8]) -> Refusal
     );
     description
         .check()
+        .or(further)
         .or(Refusal::when(n < 12, Refusal::BYTES, n as u64))
         .or(Refusal::when(unknown, Refusal::VERSION, 0))
         .or(check_number(
@@ -132,23 +173,35 @@ fn check_head(description: Description, bytes: &[u8]) -> Refusal
 }
 
 // Field by field in footer order: those before the tile number, by the starts of the dense flag and of that number.
-fn check_before_tiles(description: Description, bytes: &[u8], dense: usize, tiles: usize) -> Refusal
+fn check_before_tiles(
+    entry: Entry,
+    description: Description,
+    bytes: &[u8],
+    dense: usize,
+    tiles: usize,
+) -> Refusal
     requires { ⌜ BeforeTiles description (now bytes) dense tiles ⌝ }
-    ensures { λ r. ⌜ r ≡ first (checksBeforeTiles description (now (bytes .entry))) ⌝ }
+    ensures { λ r. ⌜ r ≡ first (checksBeforeTiles entry description (now (bytes .entry))) ⌝ }
 {
     let null_domain = dense + 1;
     let domain = dense + 2;
     check_flag(bytes, dense)
-        .or(check_set(bytes, dense, Refusal::DENSE))
+        .or(check_is(bytes, dense, entry.flag, Refusal::DENSE))
         .or(check_flag(bytes, null_domain))
-        .or(check_set(bytes, null_domain, Refusal::NULL_DOMAIN))
+        .or(check_is(bytes, null_domain, 1, Refusal::NULL_DOMAIN))
         .or(check_domain(description, bytes, domain, tiles))
 }
 
 // The tile number and all after it, the length field last.
-fn check_from_tiles(description: Description, file_size: u64, bytes: &[u8], tiles: usize) -> Refusal
+fn check_from_tiles(
+    entry: Entry,
+    description: Description,
+    file_size: u64,
+    bytes: &[u8],
+    tiles: usize,
+) -> Refusal
     requires { ⌜ FromTiles description (now bytes) «file_size» tiles ⌝ }
-    ensures { λ r. ⌜ r ≡ first (checksFromTilesBy current description (now (bytes .entry)) «file_size») ⌝ }
+    ensures { λ r. ⌜ r ≡ first (checksFromTiles entry description (now (bytes .entry)) «file_size») ⌝ }
 {
     let n = description.fields as usize;
     let total = bytes.len();
@@ -159,20 +212,8 @@ fn check_from_tiles(description: Description, file_size: u64, bytes: &[u8], tile
     let deletes = tiles + 17;
     let rtree = tiles + 18 + 24 * n;
     let offsets = 8 * n + 3;
-    check_number(
-            bytes,
-            tiles,
-            Description::LEAST_TILES,
-            Description::MOST_TILES,
-            Refusal::TILES,
-        )
-        .or(check_number(
-            bytes,
-            last_cells,
-            1,
-            description.capacity,
-            Refusal::LAST_CELLS,
-        ))
+    check_number(bytes, tiles, entry.least, entry.most, Refusal::TILES)
+        .or(check_last_cells(entry.cells, bytes, last_cells, description.capacity))
         .or(check_flag(bytes, timestamps))
         .or(check_flag(bytes, deletes))
         .or(check_offsets(bytes, rtree, offsets, limit))
@@ -191,12 +232,23 @@ fn check_flag(bytes: &[u8], at: usize) -> Refusal
     Refusal::when(1 < flag, Refusal::FLAG, at as u64)
 }
 
-// A flag is not 1.
-fn check_set(bytes: &[u8], at: usize, number: u64) -> Refusal
-    ensures { λ r. ⌜ r ≡ flagSet (now (bytes .entry)) number at ⌝ }
+// A flag is not this one.
+fn check_is(bytes: &[u8], at: usize, flag: u64, number: u64) -> Refusal
+    ensures { λ r. ⌜ r ≡ flagIs (now (bytes .entry)) flag number at ⌝ }
 {
-    let flag = byte_at(bytes, at);
-    Refusal::when(flag == 1, number, at as u64)
+    let byte = byte_at(bytes, at);
+    Refusal::when(byte == flag, number, at as u64)
+}
+
+// The last tile's cells, for an entry that has any, are 1 to the capacity.
+fn check_last_cells(has: bool, bytes: &[u8], at: usize, capacity: u64) -> Refusal
+    ensures { λ r. ⌜ r ≡ onlyIf has (numberOutside (now (bytes .entry)) 8 1 capacity lastCells at) ⌝ }
+{
+    if has {
+        check_number(bytes, at, 1, capacity, Refusal::LAST_CELLS)
+    } else {
+        Refusal::none()
+    }
 }
 
 // A u64 is neither below the least nor above the most.

@@ -8,13 +8,24 @@ ghost use Prim.Native.Nat.{_+_, _*_, _≤_, _<_};
 ghost use lib.ListN.{length, getD};
 ghost use Rattle.description.specs.Limits.{mostFields};
 ghost use Rattle.footer.specs.Answer.{entries, footerAnswer, refusedFooter, acceptedFooter};
-ghost use Rattle.footer_fields.specs.Code.Places.{ReadOf};
+ghost use Rattle.footer_fields.specs.Code.Places.{Whole, footerOf, ReadOf};
 
 // The footer checked, with all of its numbers.
 pub fn open(description: Description, file_size: u64, bytes: &[u8]) -> Footer
     ensures { λ r. ⌜ r ≡ footerAnswer description «file_size» (now (bytes .entry)) ⌝ }
 {
-    let checked = footer::check(description, file_size, bytes);
+    fields_of(
+        description,
+        bytes,
+        footer::check(description, file_size, bytes),
+    )
+}
+
+// All of its numbers by the small answer, whichever entry that is of.
+fn fields_of(description: Description, bytes: &[u8], checked: Checked) -> Footer
+    requires { ⌜ (checked .number ≡ 0 → Whole description (now bytes) checked) ⌝ }
+    ensures { λ r. ⌜ r ≡ footerOf description (now (bytes .entry)) checked ⌝ }
+{
     if checked.number != 0 {
         return refused(checked.number, checked.place);
     }

@@ -1,20 +1,36 @@
 // Opening a footer and a tree body together.
 use answers::Refusal;
 use description::Description;
+use footer::Entry;
 use rtree::Opened;
 ghost use mathlib.Core.Path.{_≡_};
 ghost use Prim.Native.Nat.{_≤_, _<_};
 ghost use Rattle.answers.specs.Refusals.{refusal};
 ghost use Rattle.description.specs.Description.{boxBytes};
 ghost use Rattle.description.specs.Limits.{leastTiles, mostTiles};
-ghost use Rattle.rtree.specs.Opening.{refusedIn, bodyRefusal, openAnswer};
+ghost use Rattle.description.specs.Rules.{rulesBy};
+ghost use Rattle.rtree.specs.Opening.{refusedIn, bodyRefusal, openAnswer, openAnswerBy};
 ghost use Rattle.opening.specs.Code.Stored.{runRefusal, tableRefusal, Run, TwoLevels};
 
 // Accepted, it answers n, f and L.
 pub fn open(description: Description, file_size: u64, footer: &[u8], body: &[u8]) -> Opened
     ensures { λ r. ⌜ r ≡ openAnswer description «file_size» (now (footer .entry)) (now (body .entry)) ⌝ }
 {
-    let checked = footer::check(description, file_size, footer);
+    open_by(Refusal::none(), description, file_size, footer, body)
+}
+
+// The same by what is said of the description after 1. All else is a sparse fragment's, since no other has a tree.
+pub fn open_by(
+    further: Refusal,
+    description: Description,
+    file_size: u64,
+    footer: &[u8],
+    body: &[u8],
+) -> Opened
+    ensures { λ r. ⌜ r ≡ openAnswerBy (rulesBy further) description «file_size» (now (footer .entry))
+        (now (body .entry)) ⌝ }
+{
+    let checked = footer::check_by(Entry::sparse(further), description, file_size, footer);
     if checked.number != 0 {
         return refused_in(0, checked.number, checked.place);
     }

@@ -26,8 +26,8 @@ use Rattle.verdicts.specs.declared.Verdict.the-variants.{Sound, Infinite, Infin
 use Rattle.verdicts.specs.Verdicts.{storedRefusal}
 use Rattle.boxes.specs.Boxes.{rangesRefusal}
 use Rattle.tree.specs.Shape.{boxes, height, levels, levelStart, bodyBytes}
-use Rattle.footer.specs.Fields.{tilesOf, domainBytes}
-use Rattle.footer.specs.Checks.{numberOutside, noFlag, flagSet, fileOffsetsRefusal, footerRefusal, footerRefusalBy}
+use Rattle.footer.specs.Fields.{tilesOf, domainBytes, numberOutside, noFlag, flagIs, fileOffsetsRefusal}
+use Rattle.footer.specs.Checks.{footerRefusal, entryRefusal}
 use Rattle.rtree.specs.declared.Opened.{Opened}
 use Rattle.rtree.specs.Body.{fanoutOf, levelsOf, countPlace, storedCount}
 use Rattle.rtree.specs.Opening.{bodyRefusal, refusedIn, openAnswer, openAnswerBy}
@@ -82,7 +82,7 @@ offsets-other footer limit count at =
     each-has Other _ 0 count none-other (λ i low high. search (check-other, offset-other))
 
 footer-other : (d : Description) (F : ℕ) (footer : List ℕ) → Other (footerRefusal d F footer)
-unfolding footerRefusalBy numberOutside noFlag flagSet
+unfolding entryRefusal numberOutside noFlag flagIs
 footer-other d F footer =
     let bytes-other : refusals.bytes ≡ refusals.work → ⊥ = λ z. omega arith in
     let version-other : refusals.version ≡ refusals.work → ⊥ = λ z. omega arith in
@@ -92,7 +92,7 @@ footer-other d F footer =
     let null-domain-other : refusals.nullDomain ≡ refusals.work → ⊥ = λ z. omega arith in
     let tiles-other : refusals.tiles ≡ refusals.work → ⊥ = λ z. omega arith in
     let last-cells-other : refusals.lastCells ≡ refusals.work → ⊥ = λ z. omega arith in
-    search (next-other, check-other, last-other, described-other, ranges-other, offsets-other, bytes-other, version-other, name-size-other, flag-other, dense-other, null-domain-other, tiles-other, last-cells-other) depth 40
+    search (next-other, none-other, check-other, last-other, described-other, ranges-other, offsets-other, bytes-other, version-other, name-size-other, flag-other, dense-other, null-domain-other, tiles-other, last-cells-other) depth 60
 
 module _ (d : Description) (F : ℕ) (footer : List ℕ) (stated room : ℕ) (got : List ℕ) where
   abbrev n : ℕ

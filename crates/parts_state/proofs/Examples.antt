@@ -16,8 +16,8 @@ use Rattle.description.specs.Kinds.{key, isNan, isInfinite, atMost}
 use Rattle.ranges.specs.Ranges.{endsAt, endsOf, hasNan, inside}
 use Rattle.verdicts.specs.Verdicts.{hasInfinity, isReversed, verdict}
 use Rattle.boxes.specs.Boxes.{rangesRefusal, boxInside, boxRefusal}
-use Rattle.footer.specs.Checks.{noFlag, flagSet, numberOutside, fileOffsetsRefusal, footerRefusalBy}
-use Rattle.footer.specs.Fields.{start, footerBytes}
+use Rattle.footer.specs.Fields.{noFlag, flagIs, numberOutside, fileOffsetsRefusal, start, footerBytes}
+use Rattle.footer.specs.Checks.{entryRefusal}
 use Rattle.tree.specs.Shape.{up, boxes, heightAbove, height, levels, allBoxes, boxesAbove, levelStart, bodyBytes}
 use Rattle.rtree.specs.Body.{frontRefusal, sizeRefusal, countsRefusal, shapeRefusal}
 use Rattle.rtree.specs.Opening.{rootRefusal, innerRefusal, levelRefusal, boxesRefusal, bodyRefusal, openAnswerBy}
@@ -85,5 +85,5 @@ stated =
     ∷ []
 
 pub in-parts : worked ≡ stated
-unfolding first over rangesRefusal boxInside boxRefusal descriptionRefusal sideStart boxBytes key isNan isInfinite atMost endsAt endsOf hasNan hasInfinity isReversed verdict inside noFlag flagSet numberOutside fileOffsetsRefusal footerRefusalBy start footerBytes signedKey little firstOfTwo secondOfTwo frontRefusal sizeRefusal countsRefusal shapeRefusal rootRefusal innerRefusal levelRefusal boxesRefusal bodyRefusal openAnswerBy up boxes heightAbove height levels allBoxes boxesAbove levelStart bodyBytes frontShown countsShown shownRefusal partsAnswer le described box footerA treeA told worked stated
+unfolding first over rangesRefusal boxInside boxRefusal descriptionRefusal sideStart boxBytes key isNan isInfinite atMost endsAt endsOf hasNan hasInfinity isReversed verdict inside noFlag flagIs numberOutside fileOffsetsRefusal entryRefusal start footerBytes signedKey little firstOfTwo secondOfTwo frontRefusal sizeRefusal countsRefusal shapeRefusal rootRefusal innerRefusal levelRefusal boxesRefusal bodyRefusal openAnswerBy up boxes heightAbove height levels allBoxes boxesAbove levelStart bodyBytes frontShown countsShown shownRefusal partsAnswer le described box footerA treeA told worked stated
 in-parts = refl

@@ -133,8 +133,11 @@ of-asked d n w =
     in-turn _ (
       of-description d,
       (
-        said (outside leastTiles mostTiles n) refusals.tiles 0 (λ e. omega arith),
-        (of-window d w, tt),
+        nothing,
+        (
+          said (outside leastTiles mostTiles n) refusals.tiles 0 (λ e. omega arith),
+          (of-window d w, tt),
+        ),
       ),
     )
 

@@ -14,7 +14,7 @@ use Rattle.query.specs.Query.{askedRefusalBy, queryRefusalBy, queryAnswe
 module _ {a b : Rules} (d : Description) (n : ℕ) (body : List ℕ) (w : Window) (same : Agree a b d n) where
   same-refusal : queryRefusalBy a d n body w ≡ queryRefusalBy b d n body w
   unfolding queryRefusalBy askedRefusalBy
-  same-refusal = rw (same .described, same .number .tiles)
+  same-refusal = rw (same .further, same .number .tiles)
 
   pub same-answer : queryAnswerBy a d n body w ≡ queryAnswerBy b d n body w
   unfolding queryAnswerBy

@@ -13,7 +13,7 @@ use Rattle.answers.specs.declared.Refusal.{Refusal}
 use Rattle.description.specs.declared.Description.{Description}
 use Rattle.boxes.specs.declared.Window.{Window}
 use Rattle.description.specs.Limits.{leastTiles, outside}
-use Rattle.description.specs.Description.{sidesOf, boxBytes}
+use Rattle.description.specs.Description.{descriptionRefusal, sidesOf, boxBytes}
 use Rattle.description.specs.Rules.{Rules, current}
 use Rattle.boxes.specs.Boxes.{boxMeets}
 use Rattle.boxes.specs.Windows.{windowRefusal}
@@ -23,10 +23,11 @@ use Rattle.query.specs.declared.Answer.{Answer}
 use Rattle.rtree.specs.Body.{fanoutOf, levelsOf, boxAt, shapeRefusal}
 use Rattle.rtree.specs.Opening.{Accepted}
 
--- 1, 10, the query
+-- 1, and what the rules say after it; 10; the query
 unfoldable pub askedRefusalBy : Rules → Description → ℕ → Window → Refusal
 askedRefusalBy rules d n w = first (
-    rules .described d
+    descriptionRefusal d
+    ∷ rules .further d
     ∷ check (outside leastTiles (rules .tiles) n) refusals.tiles 0
     ∷ windowRefusal d w
     ∷ []

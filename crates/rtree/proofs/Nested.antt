@@ -1,6 +1,7 @@
--- What does opening say of an accepted tree? Nothing refused, so no check did (`opened`): a footer and an F are there
--- with which the body passes (`accepted-body`), and then every box below the root lies inside its parent (`nested`).
--- Read off check by check, from the whole order of checks down to the one that asks.
+-- What does opening say of a tree that it takes? Nothing refused, so no check did (`opened-by`), and in a body that
+-- passes every box below the root lies inside its parent (`body-nested`), whatever the rules. To an accepted tree a
+-- footer and an F are there with which the body passes (`accepted-body`). Read off check by check, from the whole order
+-- of checks down to the one that asks.
 -- Assumes nothing.
 use mathlib.Core.Path.{_≡_, refl, sym, _∙_}
 use mathlib.Core.Bool.{Bool, true, false, cond}
@@ -88,12 +89,15 @@ module _ (d : Description) (n : ℕ) (body : List ℕ) where
       boxInside (d .kinds) (sidesOf (d .dimensions))
       (boxAt n (boxBytes d) body j k) (boxAt n (boxBytes d) body (suc j) (k / fanoutOf body)) ≡ true
 
-  inside-clear : (j k : ℕ) → innerRefusal d n body j k .number ≡ 0 → InParent j k
+  -- A body that passes, whatever the rules and whatever the footer: every box below the root lies inside its parent.
+  pub body-nested : (domain : List ℕ) → bodyRefusal d n domain body .number ≡ 0
+      → (j k : ℕ) → j < top → k < boxes (fanoutOf body) n j → InParent j k
   unfolding innerRefusal boxRefusal
-  inside-clear j k h =
+  body-nested domain h j k below there =
       let bytes = boxAt n (boxBytes d) body j k in
       let ranges = rangesRefusal (d .kinds) (sidesOf (d .dimensions)) bytes (placeOf n (boxBytes d) body j k) in
-      not-false _ (check-clear _ refusals.outsideParent _ (omega arith) (both-clear ranges _ h .1))
+      let clear = box-clear j k there (level-clear domain (boxes-clear domain h) j below) in
+      not-false _ (check-clear _ refusals.outsideParent _ (omega arith) (both-clear ranges _ clear .1))
 
 module _ (d : Description) (n : ℕ) (body : List ℕ) (a : Accepted d n body) where
   -- the body passes with that footer's domain
@@ -103,7 +107,4 @@ module _ (d : Description) (n : ℕ) (body : List ℕ) (a : Accepted d n body) w
       rw (sym (h .2) ∙ a .tiles) at (h .1)
 
   pub nested : (j k : ℕ) → j < height (fanoutOf body) n → k < boxes (fanoutOf body) n j → InParent d n body j k
-  nested j k below there =
-      let domain = domainBytes d (a .footer) in
-      inside-clear d n body j k
-      (box-clear d n body j k there (level-clear d n body domain (boxes-clear d n body domain accepted-body) j below))
+  nested = body-nested d n body (domainBytes d (a .footer)) accepted-body

@@ -28,7 +28,7 @@ module _ (d : Description) (F : ℕ) (footer body : List ℕ) where
 
   -- Every tree that was accepted with the earlier limit stays accepted, with the same answer.
   pub stays-open : openAnswerBy earlier d F footer body .number ≡ 0 → openAnswer d F footer body ≡ openAnswerBy earlier d F footer body
-  stays-open h = as-before (footers.no-more earlier d F footer (opened-by earlier d F footer body h .0))
+  stays-open h = as-before (footers.tiles-within earlier d F footer (opened-by earlier d F footer body h .0) .1)
 
   -- A larger n, in a footer that is sound up to there, is refused with 10 at its start in the first of the two.
   pub too-many : (rules : Rules) → first (footers.beforeTiles rules d F footer) .number ≡ 0 → rules .tiles < tilesOf d footer

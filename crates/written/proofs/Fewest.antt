@@ -15,6 +15,7 @@ use Rattle.answers.specs.declared.Refusal.{Refusal}
 use Rattle.description.specs.declared.Description.{Description}
 use Rattle.description.specs.Limits.{Sizes}
 use Rattle.description.specs.Description.{sidesOf, boxBytes}
+use Rattle.description.specs.Rules.{current}
 use Rattle.boxes.specs.declared.Window.{Window}
 use Rattle.boxes.specs.Boxes.{boxInside, boxMeets}
 use Rattle.boxes.proofs.Boxes.{box-meets-around}
@@ -37,7 +38,7 @@ use Rattle.written.specs.Body.{writtenBox, writtenBody}
 use Rattle.written.specs.SameLeaves.{leavesOf, SameLeaves, NoMore}
 use Rattle.written.proofs.Body.{body-fanout, body-box, body-shape}
 use Rattle.written.proofs.Boxes.{parent-least}
-use Rattle.written.proofs.Opened.{Packed, opens}
+use Rattle.written.proofs.Opened.{Packed, opens-by}
 use Rattle.written.proofs.Tree.{written-packed}
 use Rattle.written.proofs.SameLeaves.{own-leaves, same-cleared}
 
@@ -84,7 +85,7 @@ module _ (d : Description) (n : ℕ) (body : List ℕ) (a : Accepted d n body) (
       let one = height-one f n (z .least) (z .some) in
       let holds = box-inside-trans (d .kinds) m (box (height f n) 0) (boxAt n b body (height f n) 0) (domainBytes d (a .footer))
       (written-inside (height f n) 0 (omega arith) (omega arith)) (accepted-root d n body a) in
-      let told = opens p (a .file) (a .footer) (foot .0) (sym (foot .2) ∙ a .tiles) holds in
+      let told = opens-by p current (a .file) (a .footer) (foot .0) (sym (foot .2) ∙ a .tiles) holds in
       record {
         footer = a .footer;
         file = a .file;

@@ -3,6 +3,7 @@ pub mod Examples
 pub mod Boxes
 pub mod Body
 pub mod Opened
+pub mod Again
 pub mod Tree
 pub mod SameLeaves
 pub mod Fewest

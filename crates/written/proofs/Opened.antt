@@ -1,5 +1,5 @@
 -- Is what is written accepted? A body is, whose boxes have sound ranges and lie inside their parents (`Packed`), with every footer that is not
--- refused, has this n, and has a domain that holds the root (`opens`): each check of opening is gone through in its order.
+-- refused, has this n, and has a domain that holds the root (`opens-by`), whatever the rules: each check of opening is gone through in its order.
 -- Assumes nothing.
 use mathlib.Core.Path.{_≡_, ap, _∙_}
 use mathlib.Core.Bool.{true}
@@ -15,14 +15,15 @@ use Rattle.description.specs.declared.Dimension.{Dimension}
 use Rattle.description.specs.declared.Description.{Description}
 use Rattle.description.specs.Limits.{Sizes}
 use Rattle.description.specs.Description.{sidesOf, boxBytes}
+use Rattle.description.specs.Rules.{Rules}
 use Rattle.boxes.specs.Boxes.{rangesRefusal, boxInside, boxRefusal}
 use Rattle.tree.specs.Shape.{boxes, height, levels}
 use Rattle.tree.proofs.Root.{height-one}
 use Rattle.footer.specs.Fields.{tilesOf, domainBytes}
-use Rattle.footer.specs.Checks.{footerRefusal}
+use Rattle.footer.specs.Checks.{footerRefusalBy}
 use Rattle.footer.proofs.Domain.{ranges-anywhere}
 use Rattle.rtree.specs.Body.{fanoutOf, boxAt}
-use Rattle.rtree.specs.Opening.{rootRefusal, innerRefusal, levelRefusal, boxesRefusal, bodyRefusal, openAnswer, openAnswerBy}
+use Rattle.rtree.specs.Opening.{rootRefusal, innerRefusal, levelRefusal, boxesRefusal, bodyRefusal, openAnswerBy}
 use Rattle.written.specs.Body.{bodyWith}
 use Rattle.written.proofs.Boxes.{parent-there}
 use Rattle.written.proofs.Body.{body-fanout, body-levels, body-box, body-shape}
@@ -94,10 +95,10 @@ module _ {d : Description} {n f : ℕ} {box : ℕ → ℕ → List ℕ} (p : Pac
     body-none = rw (body-shape f n b box (p .sized) (p .sizes)) boxes-none
 
   -- With any footer that is not refused, has this n, and has a domain that holds the root, the body is accepted, with n, f and L as its answer.
-  pub opens : (F : ℕ) (footer : List ℕ) → footerRefusal d F footer .number ≡ 0 → tilesOf d footer ≡ n
+  pub opens-by : (rules : Rules) (F : ℕ) (footer : List ℕ) → footerRefusalBy rules d F footer .number ≡ 0 → tilesOf d footer ≡ n
       → boxInside (d .kinds) (sidesOf (d .dimensions)) (box (height f n) 0) (domainBytes d footer) ≡ true
-      → openAnswer d F footer body ≡ record { number = 0; place = 0; which = 0; tiles = n; fanout = f; levels = levels f n }
+      → openAnswerBy rules d F footer body ≡ record { number = 0; place = 0; which = 0; tiles = n; fanout = f; levels = levels f n }
   unfolding openAnswerBy
-  opens F footer clear tiles holds =
+  opens-by rules F footer clear tiles holds =
       let told : bodyRefusal d (tilesOf d footer) (domainBytes d footer) body ≡ none = rw tiles (body-none (domainBytes d footer) holds) in
       rw (eq-eqb _ 0 clear, told, tiles, fanout, body-levels f n box (p .sizes))

@@ -20,7 +20,7 @@ use Rattle.boxes.specs.Boxes.{sideAt, rangesRefusal}
 use Rattle.boxes.proofs.Holding.{ranges-numbers, box-inside-same, same-sound}
 use Rattle.tree.specs.Shape.{boxes, levelStart, bodyBytes}
 use Rattle.tree.proofs.Places.{leaves-end}
-use Rattle.footer.specs.Checks.{footerRefusalBy}
+use Rattle.footer.specs.Checks.{entryRefusal}
 use Rattle.rtree.specs.Body.{fanoutOf, placeOf, boxAt}
 use Rattle.rtree.specs.Opening.{Accepted}
 use Rattle.rtree.proofs.Nested.{opened}
@@ -64,7 +64,7 @@ module _ (d : Description) (n : ℕ) (body : List ℕ) (a : Accepted d n body) w
   own-leaves = same-patterns (leavesOf d n body) own-length (λ k l i h. ap (λ x. sideAt (d .kinds) x i) (own-leaf k l))
 
   described : descriptionRefusal d .number ≡ 0
-  unfolding footerRefusalBy
+  unfolding entryRefusal
   described = clear _ _ (opened d (a .file) (a .footer) body (a .passed) .0) .0
 
   module _ (leaves : List ℕ) (same : SameLeaves d n body leaves) where

@@ -18,6 +18,7 @@ use Rattle.answers.proofs.Joined.{cut-join}
 use Rattle.description.specs.declared.Description.{Description}
 use Rattle.description.specs.Limits.{leastTiles, mostTiles, leastFanout, mostFanout, Sizes}
 use Rattle.description.specs.Description.{sidesOf, boxBytes, descriptionRefusal}
+use Rattle.description.specs.Rules.{current}
 use Rattle.description.proofs.Limits.{within, not-outside}
 use Rattle.boxes.specs.Boxes.{boxInside}
 use Rattle.boxes.proofs.Moving.{ranges-none}
@@ -30,7 +31,7 @@ use Rattle.written.specs.Body.{writtenBox, writtenBody}
 use Rattle.written.specs.Writing.{sizesRefusal, leafRefusal, writeRefusal}
 use Rattle.written.proofs.Body.{body-length, level-boxes}
 use Rattle.written.proofs.Boxes.{box-sized, box-nested, box-sound}
-use Rattle.written.proofs.Opened.{Packed, opens}
+use Rattle.written.proofs.Opened.{Packed, opens-by}
 
 -- what is passed before the room is asked for
 pub record Cleared (d : Description) (n f : ℕ) (leaves : List ℕ) : Type 0 where
@@ -119,4 +120,4 @@ module _ (d : Description) (n f : ℕ) (leaves : List ℕ) where
       → boxInside (d .kinds) (sidesOf (d .dimensions)) (writtenBox d n f leaves (height f n) 0) (domainBytes d footer) ≡ true
       → openAnswer d F footer (writtenBody d n f leaves)
       ≡ record { number = 0; place = 0; which = 0; tiles = n; fanout = f; levels = levels f n }
-  written-opens room h = opens (written-packed (write-cleared room h))
+  written-opens room h = opens-by (written-packed (write-cleared room h)) current

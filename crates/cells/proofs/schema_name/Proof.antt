@@ -7,14 +7,14 @@ use borrow.Author.Needs.{needs}
 use lib.ListN.{take, drop}
 use Rattle.footer.specs.declared.Checked.{Checked}
 use Rattle.footer.specs.Fields.{start, nameSizeOf}
-use Rattle.footer.specs.Answer.{acceptedChecked, refusedChecked, schemaNameBy}
+use Rattle.footer.specs.Answer.{acceptedChecked, refusedChecked, entryName}
 use Rattle.footer.proofs.Fields.{footer-bytes}
 use Rattle.footer.proofs.Passed.{Ready, ready, checked-number, checked-refused}
 use Rattle.cells.proofs.schema_name.Statement.{statement}
 use Rattle.cells.proofs.schema_name.Tie as tie
 
 returns : tie.Need-returns
-unfolding schemaNameBy refusedChecked
+unfolding entryName refusedChecked
 returns c =
     let h = c .before .before .before in
     let a = h .before .before .args in
@@ -36,7 +36,7 @@ unfolding acceptedChecked
 told c = ap (λ (x : Checked). x .«name_size») (whole c .checked)
 
 returns-2 : tie.Need-returns-2
-unfolding schemaNameBy start
+unfolding entryName start
 returns-2 c =
     let h = c .before .before .before in
     let s = h .before .before .args .bytes .now in

@@ -1,5 +1,5 @@
 -- `cells::total_cells` meets its contract: at most 16,777,216 tiles of at most 1,000,000,000 cells fit. Assumes nothing.
-use mathlib.Core.Path.{_≡_}
+use mathlib.Core.Path.{_≡_, refl}
 use Prim.Native.Nat.{_-_, _*_, _≤_}
 use native.Mathlib.Omega.{arith}
 use native.Mathlib.Nat.{mul-le-mul}
@@ -49,5 +49,5 @@ total-cells-spec =
     (λ c. record { fits = omega (arith, product (c .before .before)) })
     (λ c.
     let w = whole (c .before .before .before) in
-    record { fits = omega (arith, product (c .before .before .before), w .last-cells, w .pass .most-last, w .pass .head .description .most-capacity) })
+    record { fits = omega (arith, product (c .before .before .before), w .last-cells, w .pass .last refl .1, w .pass .head .description .most-capacity) })
     returns-2)

@@ -1,63 +1,11 @@
--- `footer::check` meets its contract: where no check refuses, the domain and the tile number stand where the definition
--- has them. Assumes nothing.
-use mathlib.Core.Path.{_≡_, refl, sym}
-use Prim.Native.Nat.{_+_, _≤_}
-use native.Mathlib.Omega.{arith}
+-- `footer::check` meets its contract: it is the check by the sparse entry, with nothing said after 1. Assumes nothing.
+use mathlib.Core.Path.{_∙_}
 use borrow.Author.Needs.{needs}
-use Rattle.description.specs.Limits.{mostName}
-use Rattle.description.specs.Description.{boxBytes}
-use Rattle.footer.specs.Fields.{start}
-use Rattle.footer.specs.Answer.{acceptedChecked, refusedChecked}
-use Rattle.footer.proofs.Fields.{start-domain, start-tiles, after}
-use Rattle.footer.proofs.Passed.{Passed, passed, checked-passed, checked-refused}
 use Rattle.footer.proofs.check.Statement.{statement}
 use Rattle.footer.proofs.check.Tie as tie
 
 returns : tie.Need-returns
-unfolding refusedChecked
-returns c =
-    let h = c .before .before in
-    let a = h .before .before .args in
-    let e = h .check-footer .ensures in
-    rw e (sym (checked-refused (a .description) (a .file-size) (a .bytes .now) (rw e at (c .if1 .taken))))
-
-whole : (c : tie.Else1) → (let a = c .before .before .before .before .args in Passed (a .description) (a .file-size) (a .bytes .now))
-whole c =
-    let h = c .before .before in
-    let a = h .before .before .args in
-    passed (a .description) (a .file-size) (a .bytes .now) (rw (h .check-footer .ensures) at (c .if1 .left))
-
-small : (c : tie.After-u64-at)
-    → (c .u64-at .result ≤ mostName) × (boxBytes (c .before .before .before .before .before .args .description) ≤ 64)
-small c = (rw (c .u64-at .ensures) (whole (c .before) .head .most-name), whole (c .before) .head .description .most-bytes)
-
-returns-2 : tie.Need-returns-2
-unfolding acceptedChecked
-returns-2 c =
-    let t = c .before in
-    let b = t .before in
-    let u = b .before in
-    let h = u .before .before .before in
-    let a = h .before .before .args in
-    let d = a .description in
-    let s = a .bytes .now in
-    let p : 14 + u .u64-at .result ≡ start d s "domain" = omega (arith, u .u64-at .ensures, start-domain d s) in
-    let q : 14 + u .u64-at .result + b .box-bytes .result ≡ start d s "tiles" =
-    omega (arith, u .u64-at .ensures, b .box-bytes .ensures, start-tiles d s) in
-    rw (c .u64-at3 .ensures, t .u64-at2 .ensures, q, after d s (start d s "tiles") _ refl refl .last-cells, p, u .u64-at .ensures)
-    (sym (checked-passed d (a .file-size) s (rw (h .check-footer .ensures) at (u .before .if1 .left))))
+returns c = c .check-by .ensures ∙ rw (c .before .sparse .ensures, c .before .before .none .ensures)
 
 pub check-spec : {M : Type 1} → statement M
-check-spec =
-    tie.close
-    (tie.spec
-    (λ c κs. search needs)
-    returns
-    (λ c κs. search needs)
-    (λ c. record { fits = omega (arith, small c) })
-    (λ c κs. search needs)
-    (λ c. record { fits = omega (arith, small (c .before), c .box-bytes .ensures) })
-    (λ c κs. search needs)
-    (λ c. record { fits = omega (arith, small (c .before .before), c .before .box-bytes .ensures) })
-    (λ c κs. search needs)
-    returns-2)
+check-spec = tie.close (tie.spec (λ c κs. search needs) (λ c κs. search needs) (λ c κs. search needs) returns)

@@ -19,11 +19,11 @@ returns c =
     let a = s .args in
     let d = a .description in
     let bytes = a .bytes .now in
-    let j1 = join-next (o1 .or .ensures) (f1 .check-flag .ensures) (o1 .before .check-set .ensures) in
+    let j1 = join-next (o1 .or .ensures) (f1 .check-flag .ensures) (o1 .before .check-is .ensures) in
     let j2 = join-next (o3 .before .before .or2 .ensures) j1 (o3 .before .before .before .check-flag2 .ensures) in
-    let j3 = join-next (o3 .or3 .ensures) j2 (o3 .before .check-set2 .ensures) in
+    let j3 = join-next (o3 .or3 .ensures) j2 (o3 .before .check-is2 .ensures) in
     join-next {s′ = rangesRefusal (d .kinds) (sidesOf (d .dimensions)) (take (boxBytes d) (drop (a .dense + 2) bytes)) (a .dense + 2)} (c .or4 .ensures) j3 (c .before .check-domain .ensures)
-    ∙ before-joined d bytes (a .dense) (s .pre .0)
+    ∙ before-joined (a .entry) d bytes (a .dense) (s .pre .0)
 
 pub check-before-tiles-spec : {M : Type 1} → statement M
 check-before-tiles-spec =

@@ -1,7 +1,7 @@
 -- `footer::check_flag` meets its contract: its test is the definition's. Assumes nothing.
 use mathlib.Core.Path.{_∙_}
 use borrow.Author.Needs.{needs}
-use Rattle.footer.specs.Checks.{noFlag}
+use Rattle.footer.specs.Fields.{noFlag}
 use Rattle.footer.proofs.check_flag.Statement.{statement}
 use Rattle.footer.proofs.check_flag.Tie as tie
 

@@ -5,12 +5,11 @@ use Prim.Native.Nat.{_+_, _*_, _≤_}
 use native.Mathlib.Omega.{arith}
 use borrow.Author.Needs.{needs}
 use Rattle.answers.specs.Checks.{first}
-use Rattle.answers.proofs.Checks.{go-on, halt, join-next, first-append}
+use Rattle.answers.proofs.Checks.{go-on, halt, join-next}
 use Rattle.description.specs.Limits.{mostName, mostFields}
 use Rattle.description.specs.Description.{boxBytes}
 use Rattle.footer.specs.Fields.{footerBytes}
-use Rattle.footer.specs.Checks.{sizeChecks}
-use Rattle.footer.specs.Code.Places.{BeforeTiles, FromTiles}
+use Rattle.footer.specs.Code.Places.{sizeChecks, BeforeTiles, FromTiles}
 use Rattle.footer.proofs.Fields.{footer-bytes, start-dense, start-tiles}
 use Rattle.footer.proofs.Parts.{footer-parts, sizes-joined}
 use Rattle.footer.proofs.Passed.{head-passed, sizes-passed}
@@ -21,7 +20,7 @@ returns : tie.Need-returns
 returns c =
     let h = c .before .before in
     let e = h .check-head .ensures in
-    e ∙ sym (footer-parts _ _ _ ∙ halt _ _ (rw e at (c .if1 .taken)))
+    e ∙ sym (footer-parts _ _ _ _ ∙ halt _ _ (rw e at (c .if1 .taken)))
 
 small : (c : tie.After-u64-at)
     → (let d = c .before .before .before .before .before .args .description in
@@ -29,7 +28,7 @@ small : (c : tie.After-u64-at)
 small c =
     let h = c .before .before .before in
     let a = h .before .before .args in
-    let k = head-passed (a .description) (a .file-size) (a .bytes .now) (rw (h .check-head .ensures) at (c .before .if1 .left)) in
+    let k = head-passed (a .entry) (a .description) (a .file-size) (a .bytes .now) (rw (h .check-head .ensures) at (c .before .if1 .left)) in
     (rw (c .u64-at .ensures) (k .most-name), k .description .most-fields, k .description .most-bytes)
 
 total-is : (c : tie.After-box-bytes)
@@ -44,12 +43,12 @@ total-is c =
 -- what is told of the number of bytes
 size-told : (c : tie.After-or)
     → (let a = c .before .before .before .before .before .before .before .before .before .args in
-    c .or .result ≡ first (sizeChecks (a .description) (a .bytes .now) (a .file-size)))
+    c .or .result ≡ first (sizeChecks (a .entry) (a .description) (a .bytes .now) (a .file-size)))
 size-told c =
     let w = c .before .before in
     let a = w .before .before .before .before .before .before .before .args in
     join-next (c .or .ensures) (w .when .ensures) (c .before .when2 .ensures)
-    ∙ sizes-joined (a .description) (a .file-size) (a .bytes .now) _ (total-is (w .before))
+    ∙ sizes-joined (a .entry) (a .description) (a .file-size) (a .bytes .now) _ (total-is (w .before))
 
 returns-2 : tie.Need-returns-2
 returns-2 c =
@@ -57,7 +56,7 @@ returns-2 c =
     let e = o .before .before .before .before .before in
     let h = e .before .before in
     let t = size-told o in
-    t ∙ sym (footer-parts _ _ _ ∙ go-on _ _ (rw (h .check-head .ensures) at (e .if1 .left)) ∙ halt _ _ (rw t at (c .if2 .taken)))
+    t ∙ sym (footer-parts _ _ _ _ ∙ go-on _ _ (rw (h .check-head .ensures) at (e .if1 .left)) ∙ halt _ _ (rw t at (c .if2 .taken)))
 
 -- the places that the fields are checked by
 places : (c : tie.Else2)
@@ -72,7 +71,7 @@ places c =
     let u = b .before in
     let a = u .before .before .before .before .before .args in
     let d = a .description in
-    let z = sizes-passed d (a .file-size) (a .bytes .now) (rw (size-told o) at (c .if2 .left)) in
+    let z = sizes-passed (a .entry) d (a .file-size) (a .bytes .now) (rw (size-told o) at (c .if2 .left)) in
     let e = u .u64-at .ensures in
     let w = b .box-bytes .ensures in (
       (omega (arith, e, start-dense d (a .bytes .now)), omega (arith, w), omega (arith, z, total-is b)),
@@ -85,8 +84,8 @@ returns-3 c =
     let o = b .before .before .before in
     let e = o .before .before .before .before .before in
     let h = e .before .before in
-    join-next (c .or2 .ensures) (b .check-before-tiles .ensures) (c .before .check-from-tiles .ensures)
-    ∙ sym (footer-parts _ _ _ ∙ go-on _ _ (rw (h .check-head .ensures) at (e .if1 .left)) ∙ go-on _ _ (rw (size-told o) at (b .before .if2 .left)) ∙ first-append _ _)
+    join-next (c .or2 .ensures) (c .before .check-before-tiles .ensures) (b .check-from-tiles .ensures)
+    ∙ sym (footer-parts _ _ _ _ ∙ go-on _ _ (rw (h .check-head .ensures) at (e .if1 .left)) ∙ go-on _ _ (rw (size-told o) at (b .before .if2 .left)))
 
 pub check-footer-spec : {M : Type 1} → statement M
 check-footer-spec =
@@ -106,7 +105,7 @@ check-footer-spec =
     (λ c κs. search needs)
     (λ c κs. search needs)
     returns-2
-    (λ c κs. places c .0)
-    (λ c κs. places (c .before) .1)
+    (λ c κs. places c .1)
+    (λ c κs. places (c .before) .0)
     (λ c κs. search needs)
     returns-3)

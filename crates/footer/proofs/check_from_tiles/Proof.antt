@@ -6,9 +6,7 @@ use borrow.Author.Needs.{needs}
 use lib.ListN.{length}
 use Rattle.answers.specs.Refusals as refusals
 use Rattle.answers.proofs.Checks.{join-next}
-use Rattle.description.specs.Limits.{leastTiles, mostTiles}
-use Rattle.footer.specs.Fields.{footerBytes}
-use Rattle.footer.specs.Checks.{numberOutside, fileOffsetsRefusal}
+use Rattle.footer.specs.Fields.{footerBytes, numberOutside, fileOffsetsRefusal, onlyIf}
 use Rattle.footer.proofs.Fields.{footer-bytes, start-tiles}
 use Rattle.footer.proofs.Parts.{lengthCheck, from-joined}
 use Rattle.footer.proofs.check_from_tiles.Statement.{statement}
@@ -27,13 +25,13 @@ returns c =
     let a = s .args in
     let d = a .description in
     let bytes = a .bytes .now in
-    let j1 = join-next {r′ = numberOutside bytes 8 leastTiles mostTiles refusals.tiles (a .tiles)} {s′ = numberOutside bytes 8 1 (d .capacity) refusals.lastCells (a .tiles + 8)} (o2 .before .before .or .ensures) (n1 .check-number .ensures) (o2 .before .before .before .check-number2 .ensures) in
+    let j1 = join-next {r′ = numberOutside bytes 8 (a .entry .least) (a .entry .most) refusals.tiles (a .tiles)} {s′ = onlyIf (a .entry .cells) (numberOutside bytes 8 1 (d .capacity) refusals.lastCells (a .tiles + 8))} (o2 .before .before .or .ensures) (n1 .check-number .ensures) (o2 .before .before .before .check-last-cells .ensures) in
     let j2 = join-next (o2 .or2 .ensures) j1 (o2 .before .check-flag .ensures) in
     let j3 = join-next (o4 .before .before .or3 .ensures) j2 (o4 .before .before .before .check-flag2 .ensures) in
     let j4 = join-next {s′ = fileOffsetsRefusal bytes (a .file-size - length bytes) (8 * d .fields + 3) (a .tiles + 18 + 24 * d .fields)} (o4 .or4 .ensures) j3 (o4 .before .check-offsets .ensures) in
-    let e : c .before .when .result ≡ lengthCheck d (a .file-size) bytes =
+    let e : c .before .when .result ≡ lengthCheck (a .entry) d (a .file-size) bytes =
     c .before .when .ensures ∙ rw (c .before .before .u64-at .ensures) in
-    join-next (c .or5 .ensures) j4 e ∙ from-joined d (a .file-size) bytes (a .tiles) (whole s) (s .pre .0)
+    join-next (c .or5 .ensures) j4 e ∙ from-joined (a .entry) d (a .file-size) bytes (a .tiles) (whole s) (s .pre .0)
 
 pub check-from-tiles-spec : {M : Type 1} → statement M
 check-from-tiles-spec =

@@ -1,7 +1,7 @@
 -- `footer::check_number` meets its contract: its test is the definition's. Assumes nothing.
 use mathlib.Core.Path.{_∙_}
 use borrow.Author.Needs.{needs}
-use Rattle.footer.specs.Checks.{numberOutside}
+use Rattle.footer.specs.Fields.{numberOutside}
 use Rattle.footer.proofs.check_number.Statement.{statement}
 use Rattle.footer.proofs.check_number.Tie as tie
 

@@ -14,7 +14,7 @@ use Rattle.answers.specs.declared.Refusal.{Refusal}
 use Rattle.answers.proofs.Runs.{over-start}
 use Rattle.answers.proofs.Checks.{none-left, past-left, stop-left}
 use Rattle.order.specs.Little.{little}
-use Rattle.footer.specs.Checks.{fileOffsetsRefusal}
+use Rattle.footer.specs.Fields.{fileOffsetsRefusal}
 use Rattle.footer.proofs.check_offsets.Statement.{statement}
 use Rattle.footer.proofs.check_offsets.Tie as tie
 
