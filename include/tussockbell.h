@@ -235,14 +235,18 @@ static inline const char *tussockbell_refusal_text(uint64_t number)
 void tussockbell_footer(const uint8_t *kinds, size_t kinds_length, uint64_t fields, uint64_t capacity, uint64_t file_size,
                         const uint8_t *footer, size_t footer_length, uint64_t *answer /* [TUSSOCKBELL_FOOTER_PLACES] */);
 
-/* Where the schema name starts in the lent footer, and its bytes; 0 and 0 where the footer is refused. This function
- * and the next two check the whole footer on every call. */
+/* Where the schema name starts in the lent footer, and its bytes; 0 and 0 where the footer is refused. This function,
+ * tussockbell_cells and tussockbell_total_cells check the whole footer on every call. */
 void tussockbell_schema_name(const uint8_t *kinds, size_t kinds_length, uint64_t fields, uint64_t capacity, uint64_t file_size,
                              const uint8_t *footer, size_t footer_length, uint64_t *answer /* [TUSSOCKBELL_NAME_PLACES] */);
 
 /* The cells of a tile, counted from 0; 0 past the last tile and where the footer is refused. */
 uint64_t tussockbell_cells(const uint8_t *kinds, size_t kinds_length, uint64_t fields, uint64_t capacity, uint64_t file_size,
                            const uint8_t *footer, size_t footer_length, uint64_t tile);
+
+/* The same with no footer, for the numbers of one that tussockbell_footer accepts: then the answer is
+ * tussockbell_cells's. */
+uint64_t tussockbell_cells_at(uint64_t tiles, uint64_t last_cells, uint64_t capacity, uint64_t tile);
 
 /* The cells of all tiles; 0 where the footer is refused. */
 uint64_t tussockbell_total_cells(const uint8_t *kinds, size_t kinds_length, uint64_t fields, uint64_t capacity, uint64_t file_size,

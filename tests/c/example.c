@@ -173,6 +173,8 @@ int main(void)
            tussockbell_cells(kinds, 1, 1, 32, size, footer, footer_length, 2),
            tussockbell_cells(kinds, 1, 1, 32, size, footer, footer_length, 3),
            tussockbell_total_cells(kinds, 1, 1, 32, size, footer, footer_length));
+    printf("cells at: %" PRIu64 " %" PRIu64 " %" PRIu64 "\n", tussockbell_cells_at(3, 5, 32, 1), tussockbell_cells_at(3, 5, 32, 2),
+           tussockbell_cells_at(3, 5, 32, 3));
 
     uint8_t list[32];
     size_t list_length = put(list, put(list, put(list, put(list, 0, 3, 8), 0, 8), 100, 8), 250, 8);

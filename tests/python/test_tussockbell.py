@@ -1195,7 +1195,7 @@ class Header(unittest.TestCase):
 
     def test_places(self):
         constants = {name[1:]: value for name, value in vars(tb).items() if re.fullmatch("_[A-Z0-9_]+", name)}
-        own = ("LARGEST", "NO_KIND", "FIRST_ROOM")
+        own = ("LARGEST", "NO_KIND", "FIRST_ROOM", "NAME_AT")
         used = {name: value for name, value in constants.items() if isinstance(value, int) and name not in own}
         self.assertEqual(used, {name: self.defined.get(name) for name in used})
         self.assertGreater(len(used), 25)
@@ -1209,14 +1209,16 @@ class Header(unittest.TestCase):
         """Parameters and results as the header declares them."""
         types = {"uint64_t": ctypes.c_uint64, "size_t": ctypes.c_size_t, "void": None}
         declared = re.findall(r"^(\w+) tussockbell_(\w+)\(([^;{]*)\);", self.header, re.M)
-        self.assertEqual(len(declared), 20)
-        asked = {name for name in vars(tb) if name.startswith("_c_")}
-        self.assertEqual({"_c_" + name for _, name, _ in declared} - asked, {"_c_extent", "_c_var_extent", "_c_report"})
+        self.assertEqual(len(declared), 21)
+        asked = {name: function for name, function in vars(tb).items() if name.startswith("_c_")}
+        # with a check that the binding has made before
+        checked = {"schema_name", "cells", "total_cells", "extent", "var_extent"}
+        self.assertEqual({name for _, name, _ in declared if "_c_" + name not in asked}, {*checked, "report"})
         for result, name, parameters in declared:
             if "_c_" + name in asked:
                 parameters = re.sub(r"/\*.*?\*/", "", parameters).split(",")
                 expected = [ctypes.c_void_p if "*" in p else types[p.split()[0]] for p in parameters]
-                function = getattr(tb, "_c_" + name)
+                function = asked["_c_" + name]
                 self.assertEqual((function.argtypes, function.restype), (expected, types[result]), msg=name)
 
 

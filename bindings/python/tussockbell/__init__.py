@@ -131,7 +131,6 @@ _TEXTS = {
 _NUMBER, _PLACE = 0, 1
 _FOOTER_DOMAIN, _DOMAIN_KIND, _DOMAIN_LOW, _DOMAIN_HIGH, _DOMAIN_PLACES = 14, 0, 1, 2, 3
 _FOOTER_LIST_PLACES, _FOOTER_PLACES = 64, 730
-_NAME_START, _NAME_LENGTH, _NAME_PLACES = 0, 1, 2
 _OPEN_WHICH, _OPEN_TILES, _OPEN_FANOUT, _OPEN_LEVELS, _OPEN_PLACES = 2, 3, 4, 5, 6
 _PARTS_PLACES = 40
 _QUERY_FOUND, _QUERY_LOOKED, _QUERY_PLACES = 2, 3, 4
@@ -151,6 +150,8 @@ _FOOTER_LISTS = {
     "file_sizes": 26, "file_var_sizes": 90, "file_validity_sizes": 154, "tile_offsets": 218, "var_offsets": 282, "var_sizes": 346,
     "validity": 410, "mins": 474, "maxes": 538, "sums": 602, "null_counts": 666,
 }
+# Where the schema name stands in the bytes of any footer.
+_NAME_AT = 12
 
 # ---- the library
 
@@ -191,9 +192,7 @@ def _missing(why: str, *_arguments: Any) -> None:
 
 
 _c_footer = _function("footer", [*_footer, _pointer])
-_c_schema_name = _function("schema_name", [*_footer, _pointer])
-_c_cells = _function("cells", [*_footer, _u64], _u64)
-_c_total_cells = _function("total_cells", _footer, _u64)
+_c_cells_at = _function("cells_at", [_u64, _u64, _u64, _u64], _u64)
 _c_open = _function("open", [*_footer, *_bytes, _pointer])
 _c_parts_start = _function("parts_start", [*_footer, _u64, _pointer])
 _c_parts_block = _function("parts_block", [_pointer, *_bytes, *_bytes])
@@ -209,7 +208,6 @@ _c_write_tree = _function("write_tree", [*_description, _u64, _u64, *_bytes, *_b
 _c_tree_length = _function("tree_length", [*_description, _u64, _u64, _pointer])
 
 _FooterAnswer = _u64 * _FOOTER_PLACES
-_NameAnswer = _u64 * _NAME_PLACES
 _OpenAnswer = _u64 * _OPEN_PLACES
 _PartsState = _u64 * _PARTS_PLACES
 _QueryAnswer = _u64 * _QUERY_PLACES
@@ -728,12 +726,11 @@ class Footer:
     conditions: int
     length: int
     total_cells: int
-    # What the C functions take; the footer's bytes are a copy, of some thousand bytes at most.
-    _given: tuple[Any, ...] = field(repr=False)
+    _capacity: int = field(repr=False)
 
     def cells(self, tile: SupportsIndex) -> int:
         """The cells of a tile, counted from 0; 0 for any number that is no tile."""
-        return _c_cells(*self._given, _limited(tile))
+        return _c_cells_at(self.tiles, self.last_tile_cells, self._capacity, _limited(tile))
 
 
 def _domain_range(answer: Any, dimension: int) -> tuple[Union[int, float], Union[int, float]]:
@@ -745,23 +742,19 @@ def _domain_range(answer: Any, dimension: int) -> tuple[Union[int, float], Union
 
 def read_footer(description: Description, file_size: SupportsIndex, footer: Bytes) -> Footer:
     """Reads the footer of a metadata file of `file_size` bytes."""
-    before = (*description._given, _file_size(file_size))
-    answer, name = _FooterAnswer(), _NameAnswer()
+    answer, capacity = _FooterAnswer(), description._given[-1]
     with _lend(footer) as view:
-        _c_footer(*before, *_lent(view), answer)
+        _c_footer(*description._given, _file_size(file_size), *_lent(view), answer)
         _check(answer)
         copy = bytes(view)
-    given = (*before, copy, len(copy))
-    _c_schema_name(*given, name)
-    start = name[_NAME_START]
     numbers: dict[str, Any] = {at: answer[place] for at, place in _FOOTER_NUMBERS.items()}
     numbers.update({at: tuple(answer[place : place + description.fields]) for at, place in _FOOTER_LISTS.items()})
     return Footer(
         **numbers,
-        schema_name=copy[start : start + name[_NAME_LENGTH]],
+        schema_name=copy[_NAME_AT : _NAME_AT + numbers["name_size"]],
         domain=tuple(_domain_range(answer, i) for i in range(len(description.kinds))),
-        total_cells=_c_total_cells(*given),
-        _given=given,
+        total_cells=(numbers["tiles"] - 1) * capacity + numbers["last_tile_cells"],
+        _capacity=capacity,
     )
 
 

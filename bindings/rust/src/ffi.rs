@@ -19,8 +19,7 @@ extern "C" {
                           footer: *const u8, footer_length: usize, answer: *mut u64);
     fn tussockbell_schema_name(kinds: *const u8, kinds_length: usize, fields: u64, capacity: u64, file_size: u64,
                                footer: *const u8, footer_length: usize, answer: *mut u64);
-    fn tussockbell_cells(kinds: *const u8, kinds_length: usize, fields: u64, capacity: u64, file_size: u64,
-                         footer: *const u8, footer_length: usize, tile: u64) -> u64;
+    fn tussockbell_cells_at(tiles: u64, last_cells: u64, capacity: u64, tile: u64) -> u64;
     fn tussockbell_total_cells(kinds: *const u8, kinds_length: usize, fields: u64, capacity: u64, file_size: u64,
                                footer: *const u8, footer_length: usize) -> u64;
     fn tussockbell_open(kinds: *const u8, kinds_length: usize, fields: u64, capacity: u64, file_size: u64,
@@ -92,9 +91,9 @@ pub(crate) fn schema_name(asked: Asked) -> [u64; NAME_PLACES] {
     answer
 }
 
-pub(crate) fn cells(asked: Asked, tile: u64) -> u64 {
-    // SAFETY: pointers and lengths of slices.
-    unsafe { with_footer!(tussockbell_cells, asked, tile) }
+pub(crate) fn cells_at(tiles: u64, last_cells: u64, capacity: u64, tile: u64) -> u64 {
+    // SAFETY: numbers alone.
+    unsafe { tussockbell_cells_at(tiles, last_cells, capacity, tile) }
 }
 
 pub(crate) fn total_cells(asked: Asked) -> u64 {

@@ -67,7 +67,7 @@ impl<'a> Footer<'a> {
         &self.domain[..self.asked.description.kinds.len()]
     }
 
-    /// The cells of a tile, counted from 0; 0 past the last tile. The library checks the footer again each time.
+    /// The cells of a tile, counted from 0; 0 past the last tile.
     ///
     /// ```
     /// # use tussockbell::{read_footer, Description, Kind};
@@ -78,7 +78,7 @@ impl<'a> Footer<'a> {
     /// # Ok::<(), Box<dyn std::error::Error>>(())
     /// ```
     pub fn cells(&self, tile: u32) -> u64 {
-        ffi::cells(self.asked, tile.into())
+        ffi::cells_at(self.tiles(), self.last_cells(), self.asked.description.capacity, tile.into())
     }
 
     /// The cells of all tiles. The library checks the footer again each time.

@@ -3,5 +3,6 @@ pub mod Runs
 pub mod Filled
 pub mod Joined
 pub mod Checks
+pub mod Moved
 pub mod Laid
 pub mod Written

@@ -1,6 +1,6 @@
 -- An order of checks as data: a list of what each check says, of which the first that refuses decides.
 -- Assumes nothing.
-use Prim.Native.Nat.{ℕ}
+use Prim.Native.Nat.{ℕ, _+_, _%_, _^_}
 use mathlib.Core.Bool.{Bool, cond}
 use mathlib.Core.List.{List, [], _∷_}
 use lib.Dec.{eqb}
@@ -24,3 +24,11 @@ first (r ∷ rs) = otherwise r (first rs)
 -- the first of g k, g (k + 1), .. , m of them, that refuses
 abbrev pub each : (ℕ → Refusal) → ℕ → ℕ → Refusal
 each = over otherwise none
+
+-- the same refusal from a start on: its place is that much further; what does not refuse stays
+abbrev pub moved : ℕ → Refusal → Refusal
+moved start r = cond (eqb (r .number) 0) r (refusal (r .number) (start + r .place))
+
+-- with a place of 64 bits
+abbrev pub movedRound : ℕ → Refusal → Refusal
+movedRound start r = cond (eqb (r .number) 0) r (refusal (r .number) ((start + r .place) % 2 ^ 64))

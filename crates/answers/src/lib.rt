@@ -1,8 +1,9 @@
 // A refusal's number and place, and the rule for a result buffer that may be too short.
 ghost use mathlib.Core.Path.{_≡_};
+ghost use Prim.Native.Nat.{min};
 ghost use lib.ListN.{set};
 ghost use Rattle.answers.specs.Refusals.{refusal, none};
-ghost use Rattle.answers.specs.Checks.{check, otherwise};
+ghost use Rattle.answers.specs.Checks.{check, otherwise, movedRound};
 
 // Number 0: not refused.
 pub struct Refusal {
@@ -91,6 +92,16 @@ impl Refusal {
     {
         if self.number == 0 { next } else { self }
     }
+
+    // The same from a start on: its place is that much further. A place has 64 bits.
+    pub fn moved(self, start: u64) -> Refusal
+        ensures { λ r. ⌜ r ≡ movedRound start self ⌝ }
+    {
+        if self.number == 0 {
+            return self;
+        }
+        Refusal::new(self.number, std::num::wrapping_add_u64(start, self.place))
+    }
 }
 
 // A found tile goes to its place of the buffer, if the buffer has that place.
@@ -100,4 +111,11 @@ pub fn keep(out: &mut [u32], at: usize, tile: u32)
     if at < out.len() {
         out[at] = tile;
     }
+}
+
+// The smaller of two: how many of a found are within b places.
+pub fn lesser(a: usize, b: usize) -> usize
+    ensures { λ r. ⌜ r ≡ min a b ⌝ }
+{
+    if a < b { a } else { b }
 }

@@ -4,7 +4,6 @@ use boxes::Window;
 use description::Description;
 use query::Answer;
 ghost use mathlib.Core.Path.{_≡_};
-ghost use Prim.Native.Nat.{min};
 ghost use lib.ListN.{length, drop};
 ghost use Rattle.query.specs.Query.{Promises};
 ghost use Rattle.batch.specs.Batch.{batchOf, askedFrom, askedBuffer, Batched, Answered};
@@ -100,28 +99,11 @@ pub fn ask_from(
         .entry))) (drop used (now (out .exit))) ⌝ }
 {
     let room = out.len();
-    let start = lesser(used, room);
+    let start = answers::lesser(used, room);
     let answer = query::query(description, tiles, body, window, &mut out[start..]);
-    let more = fitting(answer.found, room - start);
+    let more = answers::lesser(answer.found as usize, room - start);
     Asked {
         answer: answer,
         used: used + more,
-    }
-}
-
-fn lesser(a: usize, b: usize) -> usize
-    ensures { λ r. ⌜ r ≡ min a b ⌝ }
-{
-    if a < b { a } else { b }
-}
-
-// How many of the tiles found fit.
-fn fitting(found: u64, left: usize) -> usize
-    ensures { λ r. ⌜ r ≡ min found left ⌝ }
-{
-    if found < left as u64 {
-        found as usize
-    } else {
-        left
     }
 }

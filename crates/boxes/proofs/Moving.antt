@@ -2,17 +2,16 @@
 -- goes over from each range to all of them.
 -- Assumes nothing.
 use mathlib.Core.Path.{_≡_, refl, sym, _∙_}
-use mathlib.Core.Bool.{Bool, true, false, cond}
 use mathlib.Core.List.{List}
-use Prim.Native.Nat.{ℕ, _+_, _≤_}
+use Prim.Native.Nat.{ℕ, _+_, _^_, _≤_, _<_}
 use native.Mathlib.Omega.{arith}
 use native.Mathlib.Nat.{zero-add}
-use lib.Dec.{eqb}
-use borrow.Author.Tests.{eq-eqb, ne-eqb, eqb-false}
-use Rattle.answers.specs.Refusals.{refusal, none}
-use Rattle.answers.specs.Checks.{otherwise}
+use borrow.Author.Tests.{eqb-false}
+use Rattle.answers.specs.Refusals.{none}
+use Rattle.answers.specs.Checks.{otherwise, moved, movedRound}
 use Rattle.answers.specs.declared.Refusal.{Refusal}
 use Rattle.answers.proofs.Runs.{over-map, over-ext}
+use Rattle.answers.proofs.Moved.{moved-otherwise, moved-code}
 use Rattle.answers.proofs.Checks.{each-clear, all-clear, each-has}
 use Rattle.description.specs.declared.Dimension.{Dimension}
 use Rattle.description.specs.Description.{kindAt, sideStart}
@@ -23,30 +22,12 @@ use Rattle.boxes.specs.Boxes.{rangesRefusal}
 use Rattle.description.proofs.Sides.{start-up}
 use Rattle.boxes.proofs.Walking.{toldAt}
 
--- the same number, at a place moved by a start; what does not refuse stays
-abbrev pub moved : ℕ → Refusal → Refusal
-moved start r = cond (eqb (r .number) 0) r (refusal (r .number) (start + r .place))
-
-module _ (start : ℕ) where
-  pub moved-clear : (r : Refusal) → r .number ≡ 0 → moved start r ≡ r
-  moved-clear r h = rw (eq-eqb (r .number) 0 h)
-
-  pub moved-some : (r : Refusal) → (r .number ≡ 0 → ⊥) → moved start r ≡ refusal (r .number) (start + r .place)
-  moved-some r h = rw (ne-eqb (r .number) 0 h)
-
-  pub moved-otherwise : (r s : Refusal) → moved start (otherwise r s) ≡ otherwise (moved start r) (moved start s)
-  moved-otherwise r s = go (eqb (r .number) 0) refl
-    where
-      go : (t : Bool) → eqb (r .number) 0 ≡ t → moved start (otherwise r s) ≡ otherwise (moved start r) (moved start s)
-      go true e = rw e (rw e)
-      go false e = rw e (rw e)
-
-  moved-told : (j : Verdict) (place : ℕ) → moved start (storedRefusal j (0 + place)) ≡ storedRefusal j (start + place)
-  moved-told (Sound r) place = refl
-  moved-told (Infinite r) place = rw zero-add
-  moved-told InfiniteReversed place = rw zero-add
-  moved-told NotANumber place = rw zero-add
-  moved-told Reversed place = rw zero-add
+moved-told : (start : ℕ) (j : Verdict) (place : ℕ) → moved start (storedRefusal j (0 + place)) ≡ storedRefusal j (start + place)
+moved-told start (Sound r) place = refl
+moved-told start (Infinite r) place = rw zero-add
+moved-told start InfiniteReversed place = rw zero-add
+moved-told start NotANumber place = rw zero-add
+moved-told start Reversed place = rw zero-add
 
 -- a range that is not refused says nothing at all
 told-clear : (j : Verdict) (place : ℕ) → storedRefusal j place .number ≡ 0 → storedRefusal j place ≡ none
@@ -84,3 +65,10 @@ unfolding rangesRefusal
 fault-before kinds m bytes =
     each-has (λ r. r .place ≤ sideStart kinds m) (toldAt kinds bytes 0) 0 m (omega arith)
     (λ i a l. told-before (verdictAt (kindAt kinds i) bytes (sideStart kinds i)) _ _ (omega (arith, start-up kinds i m (omega arith))))
+
+-- what is told of a box by itself and then moved, as code does it
+pub ranges-told : {told moved-on : Refusal} (kinds : List Dimension) (m : ℕ) (bytes : List ℕ) (start : ℕ)
+    → told ≡ rangesRefusal kinds m bytes 0 → moved-on ≡ movedRound start told → start + sideStart kinds m < 2 ^ 64
+    → moved-on ≡ rangesRefusal kinds m bytes start
+ranges-told kinds m bytes start e f h =
+    moved-code start (rangesRefusal kinds m bytes 0) (rw e at f) (omega (arith, fault-before kinds m bytes)) ∙ sym (ranges-moved kinds m bytes start)

@@ -8,7 +8,6 @@ use description::Kind;
 use ranges::Range;
 ghost use mathlib.Core.Path.{_≡_};
 ghost use mathlib.Core.Bool.{_&&_, cond};
-ghost use lib.ListN.{getD};
 ghost use Rattle.c_arguments.specs.Described.{isKindAt, allKinds, numberedDimensions, describe};
 ghost use Rattle.c_arguments.specs.Windows.{otherSide, windowOfBytes};
 
@@ -54,10 +53,10 @@ pub fn or_zero(test: bool, x: u64) -> u64
 pub fn dimensions_of(numbers: &[u8]) -> [Dimension; 4]
     ensures { λ r. ⌜ r ≡ numberedDimensions (now (numbers .entry)) ⌝ }
 {
-    let a = Kind::of(number_at(numbers, 0));
-    let b = Kind::of(number_at(numbers, 1));
-    let c = Kind::of(number_at(numbers, 2));
-    let d = Kind::of(number_at(numbers, 3));
+    let a = Kind::of(order::byte_at(numbers, 0));
+    let b = Kind::of(order::byte_at(numbers, 1));
+    let c = Kind::of(order::byte_at(numbers, 2));
+    let d = Kind::of(order::byte_at(numbers, 3));
     [
         Dimension { kind: a },
         Dimension { kind: b },
@@ -86,18 +85,8 @@ fn both(a: bool, b: bool) -> bool
 fn is_kind_at(numbers: &[u8], i: usize) -> bool
     ensures { λ r. ⌜ r ≡ isKindAt (now (numbers .entry)) i ⌝ }
 {
-    let number = number_at(numbers, i);
+    let number = order::byte_at(numbers, i);
     number == Kind::of(number).datatype()
-}
-
-fn number_at(numbers: &[u8], i: usize) -> u64
-    ensures { λ r. ⌜ r ≡ getD (now (numbers .entry)) i 0 ⌝ }
-{
-    if i < numbers.len() {
-        numbers[i] as u64
-    } else {
-        0
-    }
 }
 
 // The side as read, or one of another kind than the description's where its number is no kind's.

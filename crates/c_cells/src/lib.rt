@@ -2,7 +2,7 @@
 // include/tussockbell.h declares them for C.
 ghost use mathlib.Core.Path.{_≡_};
 ghost use lib.ListN.{getD, take, drop};
-ghost use Rattle.footer.specs.Answer.{checkedAnswer, schemaName, tileCells, allCells};
+ghost use Rattle.footer.specs.Answer.{checkedAnswer, schemaName, cellsOf, tileCells, allCells};
 ghost use Rattle.c_arguments.specs.Described.{describe};
 ghost use Rattle.c_cells.specs.Places.{namePlaces};
 
@@ -44,6 +44,14 @@ pub extern "C" fn tussockbell_cells(
 {
     let d = c_arguments::describe(kinds, fields, capacity);
     cells::tile_cells(d, file_size, footer, tile)
+}
+
+// The same with no footer, for a caller who has had it checked.
+#[no_mangle]
+pub extern "C" fn tussockbell_cells_at(tiles: u64, last_cells: u64, capacity: u64, tile: u64) -> u64
+    ensures { λ r. ⌜ r ≡ cellsOf tiles «last_cells» capacity tile ⌝ }
+{
+    cells::cells_at(tiles, last_cells, capacity, tile)
 }
 
 // The cells of all tiles.

@@ -3,17 +3,18 @@
 -- Assumes nothing.
 use mathlib.Core.Path.{_≡_, refl, ap, sym, _∙_}
 use mathlib.Core.List.{List, [], _∷_, _++_, append-assoc, append-nil}
-use Prim.Native.Nat.{ℕ, zero, suc, _+_, _*_, _/_, _%_, _≤_, _<_}
-use native.Mathlib.Nat.{mod-lt, div-add-mod', zero-add}
+use Prim.Native.Nat.{ℕ, zero, suc, _+_, _*_, _<_}
+use native.Mathlib.Nat.{zero-add}
 use native.Mathlib.Omega.{arith}
 use lib.ListN.{length, getD, take, drop, replicate, length-append, length-replicate, List·getD-append}
-use lib.Seq.{sets, drop-cons, getD-append-add}
+use lib.Seq.{sets, getD-append-add}
 use Rattle.answers.specs.Runs.{over}
 use Rattle.answers.proofs.Runs.{over-ext}
 use Rattle.answers.proofs.Filled.{row-length, row-at}
 use Rattle.answers.proofs.Joined.{cut-join}
 use Rattle.answers.proofs.Written.{listed, begun, more, whole}
 use Rattle.order.specs.Little.{little, bytesOf}
+use Rattle.order.proofs.Stores.{bytes-there}
 use Rattle.description.specs.declared.Description.{Description}
 use Rattle.description.specs.declared.Dimension.{Dimension}
 use Rattle.description.specs.declared.Kind.the-variants.{Int32}
@@ -23,19 +24,6 @@ use Rattle.description.proofs.Datatypes.{kind-again}
 use Rattle.parts_state.specs.declared.Cursor.{Cursor}
 use Rattle.parts_state.specs.declared.Parts.{Parts}
 use Rattle.c_open.specs.State.{statePlaces, descriptionIn, cursorOf, stateOf, bytesIn, wordsOf, kindsIn, kindNumbers}
-
--- the bytes of the number that bytes stand for
-bytes-again : (l : List ℕ) → ((i : ℕ) → getD l i 0 < 256) → (m at : ℕ) → at + m ≤ length l → bytesOf m (little l at m) ≡ take m (drop at l)
-unfolding bytesOf little
-bytes-again l small zero at h = refl
-bytes-again l small (suc m) at h =
-    let x = getD l at 0 + 256 * little l (at + 1) m in
-    let parts = div-add-mod' x 256 in
-    let under : x % 256 < 256 = mod-lt x (omega arith) in
-    let low : x % 256 ≡ getD l at 0 = omega (arith, parts, under, small at) in
-    let high : x / 256 ≡ little l (at + 1) m = omega (arith, parts, under, small at) in
-    let next : at + 1 ≡ suc at = omega arith in
-    rw (low, high, drop-cons l at 0 (omega arith), bytes-again l small m (at + 1) (omega arith), next)
 
 -- a list that stands after another
 inside : (p l q : List ℕ) (at : ℕ) → length p ≡ at → (i : ℕ) → i < length l → getD (p ++ (l ++ q)) (at + i) 0 ≡ getD l i 0
@@ -55,7 +43,7 @@ bytes-back p l q at e size small =
     over-ext _++_ [] (λ i. bytesOf 8 (getD (p ++ (wordsOf l ++ q)) (at + i) 0)) (λ i. take 8 (drop (i * 8) l)) 0 8
     (λ i from to.
     let near : i < 8 = omega (arith, from, to) in
-    rw (inside p (wordsOf l) q at e i (omega (arith, words-length l)), word-at l i near) (bytes-again l small 8 (i * 8) (omega (arith, size, near))))
+    rw (inside p (wordsOf l) q at e i (omega (arith, words-length l)), word-at l i near) (bytes-there l small (i * 8) 8 (omega (arith, size, near))))
     ∙ cut-join 8 8 l (omega (arith, size))
 
 no-kind : Dimension

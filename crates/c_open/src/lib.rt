@@ -19,6 +19,59 @@ ghost use Rattle.c_open.specs.Places.{openedPlaces};
 ghost use Rattle.c_open.specs.State.{statePlaces, descriptionIn, cursorOf, stateOf, bytesIn, wordsOf};
 ghost use Rattle.c_open.specs.State.{kindsIn, kindNumbers};
 
+// The places of a state: its numbers, and eight bytes in each place from DOMAIN and from HELD on.
+const NUMBER: usize = 0;
+
+const PLACE: usize = 1;
+
+const WHICH: usize = 2;
+
+const DIMENSIONS: usize = 3;
+
+const FIRST_KIND: usize = 4;
+
+const SECOND_KIND: usize = 5;
+
+const THIRD_KIND: usize = 6;
+
+const FOURTH_KIND: usize = 7;
+
+const FIELDS: usize = 8;
+
+const CAPACITY: usize = 9;
+
+const TILES: usize = 10;
+
+const STATED: usize = 11;
+
+const FANOUT: usize = 12;
+
+const LEVELS: usize = 13;
+
+const LEVEL: usize = 14;
+
+const COUNTED: usize = 15;
+
+const COUNT: usize = 16;
+
+const INDEX: usize = 17;
+
+const OWN: usize = 18;
+
+const PARENTS: usize = 19;
+
+const DONE: usize = 20;
+
+const KEPT: usize = 21;
+
+const BOX_NUMBER: usize = 22;
+
+const BOX_PLACE: usize = 23;
+
+const DOMAIN: usize = 24;
+
+const HELD: usize = 32;
+
 // Opens a footer and a tree together.
 #[no_mangle]
 pub extern "C" fn tussockbell_open(
@@ -60,8 +113,8 @@ pub extern "C" fn tussockbell_parts_start(
     let k = made.kinds;
     let numbers = kind_numbers(k);
     put_numbers(state, s, numbers);
-    put_bytes(state, 24, &s.domain);
-    put_bytes(state, 32, &s.held);
+    put_bytes(state, DOMAIN, &s.domain);
+    put_bytes(state, HELD, &s.held);
 }
 
 // Takes one block, of any length.
@@ -83,14 +136,14 @@ pub extern "C" fn tussockbell_parts_finish(state: &[u64; 40], work: &[u8], answe
         → now (answer .exit) ≡ openedPlaces (partsAnswer d F footer stated (length (now (work .entry))) got)) ⌝ }
 {
     let d = description_in(state);
-    let domain = bytes_in(state, 24);
-    let held = bytes_in(state, 32);
+    let domain = bytes_in(state, DOMAIN);
+    let held = bytes_in(state, HELD);
     let c = cursor_of(state);
     let s = Parts {
         description: d,
-        tiles: state[10],
+        tiles: state[TILES],
         domain: domain,
-        stated: state[11],
+        stated: state[STATED],
         cursor: c,
         held: held,
     };
@@ -115,8 +168,8 @@ fn put_state(state: &mut [u64; 40], s: Parts)
     let k = d.kinds;
     let kinds = kind_numbers(k);
     put_numbers(state, s, kinds);
-    put_bytes(state, 24, &s.domain);
-    put_bytes(state, 32, &s.held);
+    put_bytes(state, DOMAIN, &s.domain);
+    put_bytes(state, HELD, &s.held);
 }
 
 fn kind_numbers(kinds: [Dimension; 4]) -> [u64; 4]
@@ -149,44 +202,30 @@ fn put_numbers(state: &mut [u64; 40], s: Parts, kinds: [u64; 4])
 {
     let d = s.description;
     let c = s.cursor;
-    let numbers = [
-        c.number,
-        c.place,
-        c.which,
-        d.dimensions,
-        kinds[0],
-        kinds[1],
-        kinds[2],
-        kinds[3],
-        d.fields,
-        d.capacity,
-        s.tiles,
-        s.stated,
-        c.fanout as u64,
-        c.levels as u64,
-        c.level as u64,
-        c.counted as u64,
-        c.count as u64,
-        c.index as u64,
-        c.own as u64,
-        c.parents as u64,
-        c.done,
-        c.kept as u64,
-        c.box_number,
-        c.box_place,
-    ];
-    put_list(state, &numbers);
-}
-
-fn put_list(state: &mut [u64; 40], list: &[u64])
-    requires { ⌜ length (now list) ≤ 40 ⌝ }
-    ensures { λ _. ⌜ now (state .exit) ≡ sets (now (state .entry)) 0 (now (list .entry)) ⌝ }
-{
-    let mut i: usize = 0;
-    while i < list.len() {
-        state[i] = list[i];
-        i += 1;
-    }
+    state[NUMBER] = c.number;
+    state[PLACE] = c.place;
+    state[WHICH] = c.which;
+    state[DIMENSIONS] = d.dimensions;
+    state[FIRST_KIND] = kinds[0];
+    state[SECOND_KIND] = kinds[1];
+    state[THIRD_KIND] = kinds[2];
+    state[FOURTH_KIND] = kinds[3];
+    state[FIELDS] = d.fields;
+    state[CAPACITY] = d.capacity;
+    state[TILES] = s.tiles;
+    state[STATED] = s.stated;
+    state[FANOUT] = c.fanout as u64;
+    state[LEVELS] = c.levels as u64;
+    state[LEVEL] = c.level as u64;
+    state[COUNTED] = c.counted as u64;
+    state[COUNT] = c.count as u64;
+    state[INDEX] = c.index as u64;
+    state[OWN] = c.own as u64;
+    state[PARENTS] = c.parents as u64;
+    state[DONE] = c.done;
+    state[KEPT] = c.kept as u64;
+    state[BOX_NUMBER] = c.box_number;
+    state[BOX_PLACE] = c.box_place;
 }
 
 // Bytes from a place on, eight in each place.
@@ -215,14 +254,14 @@ fn state_of(state: &[u64; 40]) -> Parts
     ensures { λ r. ⌜ r ≡ stateOf (now (state .entry)) ⌝ }
 {
     let d = description_in(state);
-    let domain = bytes_in(state, 24);
-    let held = bytes_in(state, 32);
+    let domain = bytes_in(state, DOMAIN);
+    let held = bytes_in(state, HELD);
     let c = cursor_of(state);
     Parts {
         description: d,
-        tiles: state[10],
+        tiles: state[TILES],
         domain: domain,
-        stated: state[11],
+        stated: state[STATED],
         cursor: c,
         held: held,
     }
@@ -233,10 +272,10 @@ fn description_in(state: &[u64; 40]) -> Description
 {
     let kinds = kinds_in(state);
     Description {
-        dimensions: state[3],
+        dimensions: state[DIMENSIONS],
         kinds: kinds,
-        fields: state[8],
-        capacity: state[9],
+        fields: state[FIELDS],
+        capacity: state[CAPACITY],
     }
 }
 
@@ -244,31 +283,31 @@ fn cursor_of(state: &[u64; 40]) -> Cursor
     ensures { λ r. ⌜ r ≡ cursorOf (now (state .entry)) ⌝ }
 {
     Cursor {
-        number: state[0],
-        place: state[1],
-        which: state[2],
-        fanout: state[12] as usize,
-        levels: state[13] as usize,
-        level: state[14] as usize,
-        counted: state[15] as usize,
-        count: state[16] as usize,
-        index: state[17] as usize,
-        own: state[18] as usize,
-        parents: state[19] as usize,
-        done: state[20],
-        kept: state[21] as usize,
-        box_number: state[22],
-        box_place: state[23],
+        number: state[NUMBER],
+        place: state[PLACE],
+        which: state[WHICH],
+        fanout: state[FANOUT] as usize,
+        levels: state[LEVELS] as usize,
+        level: state[LEVEL] as usize,
+        counted: state[COUNTED] as usize,
+        count: state[COUNT] as usize,
+        index: state[INDEX] as usize,
+        own: state[OWN] as usize,
+        parents: state[PARENTS] as usize,
+        done: state[DONE],
+        kept: state[KEPT] as usize,
+        box_number: state[BOX_NUMBER],
+        box_place: state[BOX_PLACE],
     }
 }
 
 fn kinds_in(state: &[u64; 40]) -> [Dimension; 4]
     ensures { λ r. ⌜ r ≡ kindsIn (now (state .entry)) 4 ⌝ }
 {
-    let a = Kind::of(state[4]);
-    let b = Kind::of(state[5]);
-    let c = Kind::of(state[6]);
-    let d = Kind::of(state[7]);
+    let a = Kind::of(state[FIRST_KIND]);
+    let b = Kind::of(state[SECOND_KIND]);
+    let c = Kind::of(state[THIRD_KIND]);
+    let d = Kind::of(state[FOURTH_KIND]);
     [
         Dimension { kind: a },
         Dimension { kind: b },

@@ -1,7 +1,7 @@
 // Kinds, the description and its limits: what comes with the bytes.
 use answers::Refusal;
 ghost use mathlib.Core.Path.{_≡_};
-ghost use Rattle.description.specs.Limits.{outside};
+ghost use Rattle.description.specs.Limits.{leastTiles, mostTiles, leastFanout, mostFanout, outside};
 ghost use Rattle.description.specs.Kinds.{rangeBytes, datatype, kindOfDatatype};
 ghost use Rattle.description.specs.Description.{descriptionRefusal, sidesOf, boxBytes};
 
@@ -128,6 +128,21 @@ impl Description {
             return Refusal::new(Refusal::DESCRIPTION, 0);
         }
         Refusal::none()
+    }
+
+    // Is n below or above its limits?
+    pub fn tiles_outside(n: u64) -> bool
+        ensures { λ r. ⌜ r ≡ outside leastTiles mostTiles n ⌝ }
+    {
+        outside(Description::LEAST_TILES, Description::MOST_TILES, n)
+    }
+
+    // Is f?
+    pub fn fanout_outside(f: u64) -> bool
+        ensures { λ r. ⌜ r ≡ outside leastFanout mostFanout f ⌝ }
+    {
+        let least = Description::LEAST_FANOUT as u64;
+        outside(least, Description::MOST_FANOUT as u64, f)
     }
 
     // B, the bytes of a box.

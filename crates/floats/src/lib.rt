@@ -65,6 +65,20 @@ pub fn f64_nan_pattern(p: u64) -> bool
     2 * (p % 0x8000_0000_0000_0000) > 0xffe0_0000_0000_0000
 }
 
+// Whether a pattern is finite, neither a NaN's nor an infinity's: the magnitude is below the infinity's.
+pub fn f32_finite_pattern(p: u32) -> bool
+    ensures { λ r. ⌜ r ≡ (not (nanBits binary32 p) && not (infinite binary32 p)) ⌝ }
+{
+    2 * (p % 0x8000_0000) < 0xff00_0000
+}
+
+// The same of 64 bits.
+pub fn f64_finite_pattern(p: u64) -> bool
+    ensures { λ r. ⌜ r ≡ (not (nanBits binary64 p) && not (infinite binary64 p)) ⌝ }
+{
+    2 * (p % 0x8000_0000_0000_0000) < 0xffe0_0000_0000_0000
+}
+
 // Is a at most b? False where one of them is a NaN.
 pub fn f32_at_most(a: f32, b: f32) -> bool
     ensures { λ r. ⌜ r ≡ floatAtMost binary32 (toBits binary32 a) (toBits binary32 b) ⌝ }

@@ -5,7 +5,7 @@ use boxes::Side;
 use description::Description;
 ghost use mathlib.Core.Path.{_≡_};
 ghost use Prim.Native.Nat.{_+_, _*_, _≤_};
-ghost use lib.ListN.{length, getD, take, drop};
+ghost use lib.ListN.{length, take, drop};
 ghost use Rattle.answers.specs.Checks.{first};
 ghost use Rattle.answers.specs.Refusals.{lastCells};
 ghost use Rattle.description.specs.Limits.{mostTiles};
@@ -228,7 +228,7 @@ fn check_from_tiles(
 fn check_flag(bytes: &[u8], at: usize) -> Refusal
     ensures { λ r. ⌜ r ≡ noFlag (now (bytes .entry)) at ⌝ }
 {
-    let flag = byte_at(bytes, at);
+    let flag = order::byte_at(bytes, at);
     Refusal::when(1 < flag, Refusal::FLAG, at as u64)
 }
 
@@ -236,7 +236,7 @@ fn check_flag(bytes: &[u8], at: usize) -> Refusal
 fn check_is(bytes: &[u8], at: usize, flag: u64, number: u64) -> Refusal
     ensures { λ r. ⌜ r ≡ flagIs (now (bytes .entry)) flag number at ⌝ }
 {
-    let byte = byte_at(bytes, at);
+    let byte = order::byte_at(bytes, at);
     Refusal::when(byte == flag, number, at as u64)
 }
 
@@ -267,10 +267,7 @@ fn check_domain(description: Description, bytes: &[u8], from: usize, to: usize) 
 {
     let kinds = description.kinds;
     let told = boxes::check_ranges(&bytes[from..to], kinds, description.dimensions);
-    if told.number == 0 {
-        return told;
-    }
-    Refusal::new(told.number, from as u64 + told.place)
+    told.moved(from as u64)
 }
 
 // So many offsets from a place on, each below the limit.
@@ -288,15 +285,4 @@ fn check_offsets(bytes: &[u8], at: usize, count: usize, limit: u64) -> Refusal
         i += 1;
     }
     Refusal::none()
-}
-
-// A byte; 0 past the end.
-fn byte_at(bytes: &[u8], at: usize) -> u64
-    ensures { λ r. ⌜ r ≡ getD (now (bytes .entry)) at 0 ⌝ }
-{
-    if at < bytes.len() {
-        bytes[at] as u64
-    } else {
-        0
-    }
 }

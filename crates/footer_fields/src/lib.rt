@@ -4,8 +4,8 @@ use description::Description;
 use footer::Checked;
 use footer::Footer;
 ghost use mathlib.Core.Path.{_≡_};
-ghost use Prim.Native.Nat.{_+_, _*_, _≤_, _<_};
-ghost use lib.ListN.{length, getD};
+ghost use Prim.Native.Nat.{_+_, _*_, _≤_};
+ghost use lib.ListN.{length};
 ghost use Rattle.description.specs.Limits.{mostFields};
 ghost use Rattle.footer.specs.Answer.{entries, footerAnswer, refusedFooter, acceptedFooter};
 ghost use Rattle.footer_fields.specs.Code.Places.{Whole, footerOf, ReadOf};
@@ -53,13 +53,13 @@ fn read(description: Description, bytes: &[u8], checked: Checked, domain: [Side;
         place: 0,
         version: order::u32_at(bytes, 0) as u64,
         name_size: checked.name_size,
-        dense: byte_at(bytes, dense),
-        null_domain: byte_at(bytes, dense + 1),
+        dense: order::byte_at(bytes, dense),
+        null_domain: order::byte_at(bytes, dense + 1),
         domain: domain,
         tiles: checked.tiles,
         last_cells: checked.last_cells,
-        timestamps: byte_at(bytes, tiles + 16),
-        deletes: byte_at(bytes, tiles + 17),
+        timestamps: order::byte_at(bytes, tiles + 16),
+        deletes: order::byte_at(bytes, tiles + 17),
         file_sizes: list_at(bytes, sizes, 0, n),
         file_var_sizes: list_at(bytes, sizes, 1, n),
         file_validity_sizes: list_at(bytes, sizes, 2, n),
@@ -126,12 +126,4 @@ fn list_at(bytes: &[u8], from: usize, k: usize, n: usize) -> [u64; 64]
         i += 1;
     }
     list
-}
-
-// A byte that is there.
-fn byte_at(bytes: &[u8], at: usize) -> u64
-    requires { ⌜ at < length (now bytes) ⌝ }
-    ensures { λ r. ⌜ r ≡ getD (now (bytes .entry)) at 0 ⌝ }
-{
-    bytes[at] as u64
 }

@@ -18,7 +18,8 @@ use Rattle.ranges.specs.Ranges.{endsAt}
 use Rattle.verdicts.specs.Verdicts.{verdictAt, storedRefusal}
 use Rattle.verdicts.proofs.Judging.{stored-sound}
 use Rattle.boxes.specs.Boxes.{rangesRefusal}
-use Rattle.boxes.proofs.Moving.{moved-clear, ranges-moved, ranges-none}
+use Rattle.answers.proofs.Moved.{moved-clear}
+use Rattle.boxes.proofs.Moving.{ranges-moved, ranges-none}
 use Rattle.boxes.proofs.Walking.{toldAt}
 use Rattle.leaves.specs.Code.Sound.{boxIn, SoundEnds, SoundSide, leavesRefusal}
 use Rattle.leaves.proofs.Ends.{ends-part}

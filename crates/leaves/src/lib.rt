@@ -4,17 +4,13 @@ use description::Description;
 use description::Kind;
 use written::Written;
 ghost use mathlib.Core.Path.{_≡_};
-ghost use mathlib.Core.Bool.{true, false};
+ghost use mathlib.Core.Bool.{true};
 ghost use Prim.Native.Nat.{_+_, _*_, _≤_};
-ghost use lib.Ieee.{binary32, binary64, nanBits};
 ghost use lib.ListN.{length};
 ghost use Rattle.answers.specs.Refusals.{none};
-ghost use Rattle.order.specs.Key.{infinite};
-ghost use Rattle.description.specs.Limits.{Sizes};
 ghost use Rattle.description.specs.Kinds.{rangeBytes};
 ghost use Rattle.description.specs.Description.{boxBytes};
 ghost use Rattle.ranges.specs.Ranges.{endsAt};
-ghost use Rattle.tree.specs.Shape.{mostBoxBytes, bodyBytes};
 ghost use Rattle.written.specs.Writing.{refusedWriting, lengthTold, sizesRefusal, lengthAnswer, writeAnswer};
 ghost use Rattle.leaves.specs.Code.Sound.{leavesRefusal, SoundEnds, SoundSide};
 
@@ -41,7 +37,8 @@ pub fn check(
     if ranges.number != 0 {
         return refused(ranges);
     }
-    let bytes = whole(n, fanout as usize, box_bytes);
+    let shape = tree::shape_of(n, fanout as usize, box_bytes);
+    let bytes = shape.bytes;
     if room < bytes {
         return refused(Refusal::new(Refusal::ROOM, 0));
     }
@@ -56,18 +53,16 @@ pub fn body_length(description: Description, tiles: u64, fanout: u64) -> Written
     if told.number != 0 {
         return refused(told);
     }
-    let bytes = whole(tiles as usize, fanout as usize, description.box_bytes());
-    length_told(bytes)
+    let shape = tree::shape_of(tiles as usize, fanout as usize, description.box_bytes());
+    length_told(shape.bytes)
 }
 
 // 1, 10, 13.
 fn check_sizes(description: Description, tiles: u64, fanout: u64) -> Refusal
     ensures { λ r. ⌜ r ≡ sizesRefusal description tiles fanout ⌝ }
 {
-    let least = Description::LEAST_FANOUT as u64;
-    let most = Description::MOST_FANOUT as u64;
-    let no_tiles = description::outside(Description::LEAST_TILES, Description::MOST_TILES, tiles);
-    let no_fanout = description::outside(least, most, fanout);
+    let no_tiles = Description::tiles_outside(tiles);
+    let no_fanout = Description::fanout_outside(fanout);
     description
         .check()
         .or(Refusal::when(no_tiles, Refusal::TILES, 0))
@@ -155,10 +150,10 @@ fn sound_at(bytes: &[u8], at: usize, kind: Kind) -> bool
 fn sound_f32(low: u32, high: u32) -> bool
     ensures { λ r. ⌜ (r ≡ true → SoundEnds Kind.Float32 low high) ⌝ }
 {
-    if !finite_f32(low) {
+    if !floats::f32_finite_pattern(low) {
         return false;
     }
-    if !finite_f32(high) {
+    if !floats::f32_finite_pattern(high) {
         return false;
     }
     floats::f32_at_most(f32::from_bits(low), f32::from_bits(high))
@@ -168,27 +163,13 @@ fn sound_f32(low: u32, high: u32) -> bool
 fn sound_f64(low: u64, high: u64) -> bool
     ensures { λ r. ⌜ (r ≡ true → SoundEnds Kind.Float64 low high) ⌝ }
 {
-    if !finite_f64(low) {
+    if !floats::f64_finite_pattern(low) {
         return false;
     }
-    if !finite_f64(high) {
+    if !floats::f64_finite_pattern(high) {
         return false;
     }
     floats::f64_at_most(f64::from_bits(low), f64::from_bits(high))
-}
-
-// Neither a NaN's pattern nor an infinity's: doubled, the pattern has lost its sign, and is below the infinity's.
-fn finite_f32(p: u32) -> bool
-    ensures { λ r. ⌜ (r ≡ true → (nanBits binary32 p ≡ false) × (infinite binary32 p ≡ false)) ⌝ }
-{
-    2 * (p % 0x8000_0000) < 0xff00_0000
-}
-
-// The same of 64 bits.
-fn finite_f64(p: u64) -> bool
-    ensures { λ r. ⌜ (r ≡ true → (nanBits binary64 p ≡ false) × (infinite binary64 p ≡ false)) ⌝ }
-{
-    2 * (p % 0x8000_0000_0000_0000) < 0xffe0_0000_0000_0000
 }
 
 // The first fault of the leaves.
@@ -203,8 +184,9 @@ fn first_fault(description: Description, tiles: usize, leaves: &[u8]) -> Refusal
     while k < tiles {
         let end = at + box_bytes;
         let told = boxes::check_ranges(&leaves[at..end], kinds, description.dimensions);
-        if told.number != 0 {
-            return Refusal::new(told.number, at as u64 + told.place);
+        let placed = told.moved(at as u64);
+        if placed.number != 0 {
+            return placed;
         }
         at = end;
         k += 1;
@@ -230,14 +212,4 @@ fn length_told(bytes: usize) -> Written
         place: 0,
         length: bytes as u64,
     }
-}
-
-// 8 + 8L + B times all boxes.
-fn whole(tiles: usize, fanout: usize, box_bytes: usize) -> usize
-    requires { ⌜ Sizes tiles fanout ⌝ }
-    requires { ⌜ «box_bytes» ≤ mostBoxBytes ⌝ }
-    ensures { λ r. ⌜ r ≡ bodyBytes fanout tiles «box_bytes» ⌝ }
-{
-    let shape = tree::shape_of(tiles, fanout, box_bytes);
-    8 + 8 * shape.levels + box_bytes * shape.boxes
 }

@@ -31,7 +31,7 @@ pub struct Extent {
 pub fn check_list(body: &[u8], tiles: u64, width: u32) -> Refusal
     ensures { λ r. ⌜ r ≡ listRefusal tiles width (now (body .entry)) ⌝ }
 {
-    if description::outside(Description::LEAST_TILES, Description::MOST_TILES, tiles) {
+    if Description::tiles_outside(tiles) {
         return Refusal::new(Refusal::TILES, 0);
     }
     let length = body.len() as u64;

@@ -18,7 +18,6 @@ use Rattle.description.specs.Limits.{leastTiles, mostTiles, Sizes}
 use Rattle.tree.specs.Shape.{boxes, height, levels, levelStart}
 use Rattle.tree.proofs.Root.{height-one}
 use Rattle.tree.proofs.Places.{start-root, level-inside}
-use Rattle.tree.proofs.Limits.{root-near}
 use Rattle.tree.proofs.Table.{shape-levels, start-at, count-at}
 use Rattle.rtree.specs.declared.Shaped.{Shaped}
 use Rattle.rtree.specs.Body.{fanoutOf, shapeRefusal}
@@ -68,9 +67,6 @@ module _ {d : Description} {n : ℕ} {body : List ℕ} {r : Shaped} (s : IsShape
     top-height : top ≡ height f n
     unfolding levels
     top-height = omega (arith, all-levels)
-
-    top-near : top ≤ 24
-    top-near = omega (arith, top-height, root-near z)
 
     -- the first box, and then level by level
     abbrev below-root : Refusal
@@ -124,7 +120,6 @@ module _ {d : Description} {n : ℕ} {body : List ℕ} {r : Shaped} (s : IsShape
             let children = level-at (top - l - 1) (omega arith) in
             record {
               some = omega arith;
-              near = omega (arith, top-near);
               rows =
                   rw (parents .0, parents .1, children .0, children .1, s .fanout) (record {
                     above = level-run (top - l) (omega (arith, top-height));

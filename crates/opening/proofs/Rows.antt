@@ -10,23 +10,22 @@ use native.Mathlib.Nat.{add-zero, zero-add, add-assoc, add-suc, suc-add}
 use native.Mathlib.Nat.{mul-le-mul-right, mul-le-mul-left, div-eq-of-lt-le, div-mul-le-self}
 use native.Mathlib.Decide.{decLe}
 use native.Mathlib.Omega.{arith}
-use lib.Dec.{eqb}
 use lib.ListN.{length, take, drop, length-take, length-drop}
 use lib.Seq.{drop-drop}
-use borrow.Author.Tests.{ne-eqb}
 use Rattle.answers.specs.Refusals.{refusal, none, outsideParent}
 use Rattle.answers.specs.Runs.{over}
-use Rattle.answers.specs.Checks.{check, otherwise, each}
+use Rattle.answers.specs.Checks.{check, otherwise, each, moved}
 use Rattle.answers.specs.declared.Refusal.{Refusal}
 use Rattle.answers.proofs.Runs.{over-ext, over-map}
 use Rattle.answers.proofs.Joined.{part-of-part}
+use Rattle.answers.proofs.Moved.{moved-place, moved-otherwise, moved-check, moved-twice}
 use Rattle.answers.proofs.Checks.{either, each-has, each-add}
 use Rattle.description.specs.declared.Dimension.{Dimension}
 use Rattle.description.specs.declared.Description.{Description}
 use Rattle.description.specs.Description.{sideStart, sidesOf, boxBytes}
 use Rattle.boxes.specs.Boxes.{rangesRefusal, boxInside, boxRefusal}
 use Rattle.rows.specs.Code.Row.{rowBox, rowRefusal}
-use Rattle.boxes.proofs.Moving.{moved, moved-otherwise, ranges-moved, fault-before}
+use Rattle.boxes.proofs.Moving.{ranges-moved, fault-before}
 use Rattle.tree.specs.Shape.{up, boxes, levelStart}
 use Rattle.tree.proofs.Counts.{up-tight, up-enough}
 use Rattle.rtree.specs.Body.{fanoutOf}
@@ -34,18 +33,6 @@ use Rattle.rtree.specs.Opening.{innerRefusal, levelRefusal}
 use Rattle.opening.specs.Code.Stored.{runRefusal, childrenOf, rowsRefusal, Run, Rows}
 
 -- a box that starts elsewhere
-moved-twice : (a s : ℕ) (r : Refusal) → moved (a + s) r ≡ moved a (moved s r)
-moved-twice a s r = go (eqb (r .number) 0) refl
-  where
-    go : (t : Bool) → eqb (r .number) 0 ≡ t
-        → cond t r (refusal (r .number) (a + s + r .place)) ≡ moved a (cond t r (refusal (r .number) (s + r .place)))
-    go true e = rw e
-    go false e = rw (e, add-assoc)
-
-pub moved-check : (a : ℕ) (t : Bool) (number s : ℕ) → 0 < number → moved a (check t number s) ≡ check t number (a + s)
-moved-check a true number s some = rw (ne-eqb number 0 (λ h. omega arith))
-moved-check a false number s some = refl
-
 module _ (kinds : List Dimension) (m : ℕ) (outer : List ℕ) (number : ℕ) where
   pub box-moved : (bytes : List ℕ) (a s : ℕ) → 0 < number
       → moved a (boxRefusal kinds m bytes outer number s) ≡ boxRefusal kinds m bytes outer number (a + s)
@@ -59,13 +46,6 @@ module _ (kinds : List Dimension) (m : ℕ) (outer : List ℕ) (number : ℕ) wh
       ∙ rw (ranges, moved-check a out number s some)
 
   -- a fault is placed before the box's end
-  moved-place : (s most : ℕ) (r : Refusal) → r .place ≤ most → moved s r .place ≤ s + most
-  moved-place s most r h = go (eqb (r .number) 0)
-    where
-      go : (t : Bool) → cond t r (refusal (r .number) (s + r .place)) .place ≤ s + most
-      go true = omega arith
-      go false = omega arith
-
   check-place : (t : Bool) (s most : ℕ) → check t number s .place ≤ s + most
   check-place true s most = omega arith
   check-place false s most = omega arith

@@ -5,11 +5,10 @@ use footer::Entry;
 use rtree::Opened;
 ghost use mathlib.Core.Path.{_≡_};
 ghost use Prim.Native.Nat.{_≤_, _<_};
-ghost use Rattle.answers.specs.Refusals.{refusal};
 ghost use Rattle.description.specs.Description.{boxBytes};
 ghost use Rattle.description.specs.Limits.{leastTiles, mostTiles};
 ghost use Rattle.description.specs.Rules.{rulesBy};
-ghost use Rattle.rtree.specs.Opening.{refusedIn, bodyRefusal, openAnswer, openAnswerBy};
+ghost use Rattle.rtree.specs.Opening.{bodyRefusal, openAnswer, openAnswerBy};
 ghost use Rattle.opening.specs.Code.Stored.{runRefusal, tableRefusal, Run, TwoLevels};
 
 // Accepted, it answers n, f and L.
@@ -32,13 +31,13 @@ pub fn open_by(
 {
     let checked = footer::check_by(Entry::sparse(further), description, file_size, footer);
     if checked.number != 0 {
-        return refused_in(0, checked.number, checked.place);
+        return rtree::refused_in(0, checked.number, checked.place);
     }
     let from = checked.domain as usize;
     let to = from + description.box_bytes();
     let told = check_body(description, checked.tiles, body, &footer[from..to]);
     if told.number != 0 {
-        return refused_in(1, told.number, told.place);
+        return rtree::refused_in(1, told.number, told.place);
     }
     Opened {
         number: 0,
@@ -47,19 +46,6 @@ pub fn open_by(
         tiles: checked.tiles,
         fanout: order::u32_at(body, 0) as u64,
         levels: order::u32_at(body, 4) as u64,
-    }
-}
-
-fn refused_in(which: u64, number: u64, place: u64) -> Opened
-    ensures { λ r. ⌜ r ≡ refusedIn which (refusal number place) ⌝ }
-{
-    Opened {
-        number: number,
-        place: place,
-        which: which,
-        tiles: 0,
-        fanout: 0,
-        levels: 0,
     }
 }
 
@@ -109,10 +95,10 @@ fn check_level(
     ensures { λ r. ⌜ r ≡ tableRefusal description (now (body .entry)) (now (table .entry)) fanout above ⌝ }
 {
     let below = above - 1;
-    let start = table[2 * above];
-    let parents = table[2 * above + 1];
-    let next = table[2 * below];
-    let count = table[2 * below + 1];
+    let start = tree::place_in(table, above);
+    let parents = tree::count_in(table, above);
+    let next = tree::place_in(table, below);
+    let count = tree::count_in(table, below);
     let mut k: usize = 0;
     while k < parents {
         let at = start + k * box_bytes;
@@ -163,8 +149,5 @@ fn check_row(
         outer,
         number,
     );
-    if told.number == 0 {
-        return told;
-    }
-    Refusal::new(told.number, from as u64 + told.place)
+    told.moved(from as u64)
 }

@@ -1,6 +1,7 @@
 -- The laws that belong to no one function.
 pub mod Little
 pub mod Bytes
+pub mod Stores
 pub mod Halves
 pub mod Pairs
 pub mod Tests

@@ -1,16 +1,18 @@
 -- What becomes of a pattern that is read as a float, where the float's bits are asked for again? And how is a NaN told
 -- and made? Laws over the format. Assumes nothing.
 use mathlib.Core.Path.{_≡_, refl, sym, ap, _∙_, subst}
-use Prim.Native.Nat.{ℕ, _+_, _*_, _/_, _%_, _<_}
+use Prim.Native.Nat.{ℕ, _+_, _*_, _/_, _%_, _≤_, _<_}
 use mathlib.Core.Bool.{Bool, true, false, not, _&&_, true≢false}
-use lib.Dec.{T, ltb, ltb→lt, lt→ltb}
+use lib.Dec.{T, eqb, ltb, ltb→lt, lt→ltb}
+use native.Mathlib.Decide.{decLe}
 use native.Mathlib.Omega.{arith}
 use lib.Ieee.{Float, nan, inf, fin, Format, binary32, binary64, up, down, div, ne, eq, hid, ones, top, ofBits, toBits, nanBits, isNan, fits}
 use lib.Ieee.Bits.{nanBits-above, nanBits-is, ofBits-toBits, ofBits-fits, toBits-ofBits}
 use mir.Val.{Fits, widthOf}
 use mir.ValLaws.{top-pow}
 use denote.Floats.{passes}
-use borrow.Author.Tests.{eq-eqb}
+use borrow.Author.Tests.{eq-eqb, ne-eqb, lt-ltb, le-ltb}
+use Rattle.order.specs.Key.{infinite}
 use Rattle.order.proofs.Tests.{same-test}
 
 -- ---- read, and the bits again
@@ -34,6 +36,29 @@ nan-doubled f p =
     (λ t. lt→ltb i m (omega (arith, ltb→lt (2 * i) (2 * m) t)))
     (λ t. lt→ltb (2 * i) (2 * m) (omega (arith, ltb→lt i m t)))
     ∙ sym (nanBits-above f p)
+
+-- ---- a finite pattern, whose magnitude is below the infinity's
+pub finite-doubled : (f : Format) (p : ℕ)
+    → ltb (2 * (p % top f)) (2 * (ones f * hid f)) ≡ (not (nanBits f p) && not (infinite f p))
+unfolding infinite
+finite-doubled f p = rw (nanBits-above f p) (go (ones f * hid f) (p % top f))
+  where
+    go : (i m : ℕ) → ltb (2 * m) (2 * i) ≡ (not (ltb i m) && not (eqb m i))
+    go i m = at (decLe i m) (decLe m i)
+      where
+        at : Dec (i ≤ m) → Dec (m ≤ i) → ltb (2 * m) (2 * i) ≡ (not (ltb i m) && not (eqb m i))
+        at (no h) k = rw (lt-ltb (2 * m) (2 * i) (omega arith), le-ltb i m (omega arith), ne-eqb m i (λ e. omega arith))
+        at (yes h) (yes k) = rw (le-ltb (2 * m) (2 * i) (omega arith), le-ltb i m (omega arith), eq-eqb m i (omega arith))
+        at (yes h) (no k) = rw (le-ltb (2 * m) (2 * i) (omega arith), lt-ltb i m (omega arith))
+
+pub finite-parts : {t : Bool} (f : Format) (p : ℕ) → t ≡ (not (nanBits f p) && not (infinite f p)) → t ≡ true
+    → (nanBits f p ≡ false) × (infinite f p ≡ false)
+finite-parts f p e h = go (nanBits f p) (infinite f p) (sym e ∙ h)
+  where
+    go : (a b : Bool) → (not a && not b) ≡ true → (a ≡ false) × (b ≡ false)
+    go false false z = (refl, refl)
+    go false true z = absurd (true≢false (sym z))
+    go true b z = absurd (true≢false (sym z))
 
 pub no-nan : (f : Format) (p : ℕ) → nanBits f p ≡ false → T (not (nanBits f p))
 no-nan f p h = subst (λ (b : Bool). T (not b)) (sym h) tt

@@ -1,12 +1,19 @@
-// What do bytes stand for? Little-endian numbers, read and stored. The order of bit patterns is defined here too, for
+// What do bytes stand for? Little-endian numbers, read and stored; and bytes that are copied. The order of bit patterns is defined here too, for
 // the crates that compare integers and floats.
 ghost use mathlib.Core.Path.{_≡_};
 ghost use mathlib.Core.Bool.{cond};
 ghost use Prim.Native.Nat.{_+_, _-_, _%_, _≤_, _<_};
 ghost use lib.Dec.{leb};
-ghost use lib.ListN.{length};
+ghost use lib.ListN.{length, getD};
 ghost use lib.Seq.{sets};
 ghost use Rattle.order.specs.Little.{little, firstOfTwo, secondOfTwo, bytesOf};
+
+// The byte at a place. A byte past the end counts 0.
+pub fn byte_at(s: &[u8], at: usize) -> u64
+    ensures { λ r. ⌜ r ≡ getD (now (s .entry)) at 0 ⌝ }
+{
+    if at < s.len() { wide64(s[at]) } else { 0 }
+}
 
 // The four bytes at a place. A byte past the end counts 0.
 pub fn u32_at(s: &[u8], at: usize) -> u32
@@ -63,6 +70,19 @@ pub fn put_u64(out: &mut [u8], at: usize, x: u64)
         if 8 <= n - at {
             store_four(out, at, (x % 0x1_0000_0000) as u32);
             store_four(out, at + 4, (x / 0x1_0000_0000) as u32);
+        }
+    }
+}
+
+// Bytes go to a place, if they all fit there.
+pub fn copy(out: &mut [u8], at: usize, bytes: &[u8])
+    ensures { λ _. ⌜ now (out .exit) ≡ cond (leb (at + length (now (bytes .entry))) (length (now (out .entry))))
+        (sets (now (out .entry)) at (now (bytes .entry))) (now (out .entry)) ⌝ }
+{
+    let n = out.len();
+    if at <= n {
+        if bytes.len() <= n - at {
+            store_all(out, at, bytes);
         }
     }
 }
@@ -150,6 +170,18 @@ fn store_four(out: &mut [u8], at: usize, x: u32)
     out[at + 1] = lowest(second);
     out[at + 2] = lowest(third);
     out[at + 3] = lowest(fourth);
+}
+
+// The room for all the bytes is there.
+fn store_all(out: &mut [u8], at: usize, bytes: &[u8])
+    requires { ⌜ at + length (now bytes) ≤ length (now out) ⌝ }
+    ensures { λ _. ⌜ now (out .exit) ≡ sets (now (out .entry)) at (now (bytes .entry)) ⌝ }
+{
+    let mut i: usize = 0;
+    while i < bytes.len() {
+        out[at + i] = bytes[i];
+        i += 1;
+    }
 }
 
 // The lowest byte of a number.

@@ -34,7 +34,7 @@ use Rattle.parts_state.specs.Code.State.{itemBytes, InTree, Going, Holds}
 use Rattle.parts_state.proofs.Shown.{shown, say-shown, say-open, say-other, counts-none, front-none, front-short, front-alone}
 use Rattle.parts_state.proofs.Whole.{shown-shape}
 use Rattle.parts.specs.Code.Cursor.{onward, refused}
-use Rattle.parts.specs.Code.Steps.{wholeIn, innerIn}
+use Rattle.parts.specs.Code.Steps.{innerIn}
 use Rattle.parts.proofs.Levels.{from-end, start-after}
 use Rattle.parts.proofs.Front.{front-code, footer-has, some-bytes, shown-counts}
 
@@ -218,7 +218,7 @@ module _ {d : Description} {F : ℕ} {footer : List ℕ} {stated : ℕ} {body wo
 
   module _ {told : Refusal} {fanout box-bytes room : ℕ} (size : length work ≡ room) (own : box-bytes ≡ boxBytes (s .description))
       (e : fanout ≡ little (s .held) 0 4)
-      (h : told ≡ frontShown (s .stated) room (s .cursor .kept) fanout 0 (shapeOf fanout (s .tiles) box-bytes .levels) (wholeIn fanout (s .tiles) box-bytes) (innerIn fanout (s .tiles) box-bytes)) where
+      (h : told ≡ frontShown (s .stated) room (s .cursor .kept) fanout 0 (shapeOf fanout (s .tiles) box-bytes .levels) (shapeOf fanout (s .tiles) box-bytes .bytes) (innerIn fanout (s .tiles) box-bytes)) where
     code : told ≡ frontShown stated room (s .cursor .kept) fanout (levelsOf body) (levels fanout (tilesOf d footer))
         (bodyBytes fanout (tilesOf d footer) (boxBytes d)) (innerBytes fanout (tilesOf d footer) (boxBytes d))
     code =

@@ -40,7 +40,7 @@ use Rattle.parts_state.specs.Parts.{innerBytes, frontShown, countsShown, shownR
 use Rattle.parts_state.specs.Code.State.{Blank, InTree, Going, Holds}
 use Rattle.parts_state.proofs.Shown.{shown, say-shown, front-have, front-none, count-stops}
 use Rattle.parts.specs.Code.Cursor.{onward, refused, fronted, counted}
-use Rattle.parts.specs.Code.Steps.{mostWork, InRange, wholeIn, innerIn, Reads}
+use Rattle.parts.specs.Code.Steps.{mostWork, InRange, innerIn, Reads}
 use Rattle.parts.proofs.Lists.{read-there}
 use Rattle.parts.proofs.Levels.{own-fits, own-root, from-first}
 
@@ -55,17 +55,17 @@ inner-boxes f n =
 module _ (stated room have f l n b : ℕ) (some : leastTiles ≤ n) (most : n ≤ mostTiles) (w : b ≤ mostBoxBytes)
     (enough : 8 ≤ stated) where
   pub front-code :
-      frontShown stated room have f l (shapeOf f n b .levels) (wholeIn f n b) (innerIn f n b)
+      frontShown stated room have f l (shapeOf f n b .levels) (shapeOf f n b .bytes) (innerIn f n b)
       ≡ frontShown stated room have f l (levels f n) (bodyBytes f n b) (innerBytes f n b)
   unfolding frontShown first
   front-code = go (leb 4 have) refl (outside leastFanout mostFanout f) refl
     where
       go : (t : Bool) → leb 4 have ≡ t → (o : Bool) → outside leastFanout mostFanout f ≡ o
-          → frontShown stated room have f l (shapeOf f n b .levels) (wholeIn f n b) (innerIn f n b)
+          → frontShown stated room have f l (shapeOf f n b .levels) (shapeOf f n b .bytes) (innerIn f n b)
           ≡ frontShown stated room have f l (levels f n) (bodyBytes f n b) (innerBytes f n b)
       go false e o q =
           let few = leb-false 4 have e in
-          front-none stated room have f l (shapeOf f n b .levels) (wholeIn f n b) (innerIn f n b) enough few
+          front-none stated room have f l (shapeOf f n b .levels) (shapeOf f n b .bytes) (innerIn f n b) enough few
           ∙ sym (front-none stated room have f l (levels f n) (bodyBytes f n b) (innerBytes f n b) enough few)
       go true e true q = rw (le-ltb stated 8 enough, e, q)
       go true e false q =
@@ -169,7 +169,7 @@ module _ {d : Description} {F : ℕ} {footer : List ℕ} {stated : ℕ} {body wo
 
     -- as code works it out
     pub front-said : {told : Refusal} {fanout level box-bytes : ℕ} → box-bytes ≡ boxBytes (s .description) → fanout ≡ little bytes 0 4 → level ≡ little bytes 4 4
-        → told ≡ frontShown (s .stated) (length work) 8 fanout level (shapeOf fanout (s .tiles) box-bytes .levels) (wholeIn fanout (s .tiles) box-bytes) (innerIn fanout (s .tiles) box-bytes)
+        → told ≡ frontShown (s .stated) (length work) 8 fanout level (shapeOf fanout (s .tiles) box-bytes .levels) (shapeOf fanout (s .tiles) box-bytes .bytes) (innerIn fanout (s .tiles) box-bytes)
         → told ≡ front
     front-said own e l h =
         h

@@ -11,7 +11,7 @@ use native.Mathlib.Decide.{decLe}
 use native.Mathlib.Omega.{arith}
 use lib.Dec.{eqb}
 use lib.ListN.{length, take, drop, length-take}
-use lib.Seq.{paste, length-paste, take-paste, take-add, drop-drop, take-take, take-length}
+use lib.Seq.{sets, length-sets, take-add, drop-drop, take-take, take-length}
 use borrow.Author.Tests.{eq-eqb, ne-eqb}
 use Rattle.description.specs.declared.Description.{Description}
 use Rattle.description.specs.Description.{boxBytes}
@@ -21,19 +21,18 @@ use Rattle.parts_state.specs.declared.Parts.{Parts}
 use Rattle.parts_state.specs.Code.State.{itemBytes, InTree, Blank, Going, Holds}
 use Rattle.parts.specs.Code.Cursor.{withCursor, keeping}
 use Rattle.parts.specs.Code.Steps.{InRange, Gathered, Reads, Some}
-use Rattle.parts.proofs.Lists.{read-first, read-there}
+use Rattle.parts.proofs.Lists.{read-first, read-there, upto}
 
 module _ {d : Description} {F : ℕ} {footer : List ℕ} {stated : ℕ} {body work : List ℕ} {s : Parts} {p : ℕ}
     (g : Going d F footer stated body work s p) where
   -- more of the bytes of what comes next
   module _ {bytes : List ℕ} (r : Reads body p bytes) {held : List ℕ}
-      (pasted : held ≡ paste (s .held) (s .cursor .kept) bytes (length bytes)) (room : s .cursor .kept + length bytes ≤ length (s .held)) where
+      (pasted : held ≡ sets (s .held) (s .cursor .kept) bytes) (room : s .cursor .kept + length bytes ≤ length (s .held)) where
     pub held-more : take (s .cursor .kept + length bytes) held ≡ take (s .cursor .kept + length bytes) (drop (s .cursor .done) body)
     held-more =
         rw (
           pasted,
-          take-paste (s .held) (s .cursor .kept) bytes (length bytes) (omega arith) (omega arith),
-          take-length bytes,
+          upto (s .held) (s .cursor .kept) bytes room,
           g .held,
           take-add (s .cursor .kept) (length bytes) (drop (s .cursor .done) body),
           drop-drop (s .cursor .kept) (s .cursor .done) body,
@@ -97,12 +96,12 @@ module _ {d : Description} {F : ℕ} {footer : List ℕ} {stated : ℕ} {body wo
 
   -- what comes next is held whole: its bytes are the next from where it starts, and none are held any more
   module _ {bytes : List ℕ} (r : Reads body p bytes) {held : List ℕ}
-      (pasted : held ≡ paste (s .held) (s .cursor .kept) bytes (length bytes)) (room : s .cursor .kept + length bytes ≤ length (s .held))
+      (pasted : held ≡ sets (s .held) (s .cursor .kept) bytes) (room : s .cursor .kept + length bytes ≤ length (s .held))
       {item : ℕ} (all : s .cursor .kept + length bytes ≡ item) where
     held-size : length (take item held) ≡ item
     held-size =
-        let size = length-paste (s .held) (s .cursor .kept) bytes (length bytes) room (omega arith) in
-        rw length-take (omega (arith, ap length pasted, size))
+        let size : length held ≡ length (s .held) = ap length pasted ∙ simp length-sets in
+        rw length-take (omega (arith, size))
 
     pub held-reads : Reads body (s .cursor .done) (take item held)
     held-reads = rw (held-size, ← all) (sym (held-more r pasted room))

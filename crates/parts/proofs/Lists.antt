@@ -2,12 +2,14 @@
 -- which bytes were pasted, before them (`pasted-before`) and up to their end (`pasted-upto`).
 -- Assumes nothing.
 use mathlib.Core.Path.{_≡_, refl, ap, sym, _∙_}
+use mathlib.Core.Bool.{Bool, true, false, cond}
 use mathlib.Core.List.{List, [], _∷_, _++_}
 use Prim.Native.Nat.{ℕ, zero, suc, _+_, _-_, _*_, _≤_, _<_, min}
 use native.Mathlib.Nat.{zero-add, suc-add, add-suc}
 use native.Mathlib.Omega.{arith}
+use lib.Dec.{leb}
 use lib.ListN.{length, take, drop, length-take, length-drop, length-append}
-use lib.Seq.{paste, take-paste, take-take, take-add, drop-drop, drop-append-le, take-append-le, take-nil, drop-nil, take-length}
+use lib.Seq.{sets, sets-eq, length-sets, take-at, take-take, take-add, drop-drop, drop-append-le, take-append-le, take-nil, drop-nil}
 use Rattle.answers.proofs.Joined.{part-of-part}
 use Rattle.parts.specs.Code.Steps.{Reads}
 
@@ -55,11 +57,12 @@ module _ (body : List ℕ) (p : ℕ) (bytes : List ℕ) (r : Reads body p bytes)
 -- a buffer into which bytes were pasted
 module _ (work : List ℕ) (to : ℕ) (bytes : List ℕ) (fits : to + length bytes ≤ length work) where
   abbrev after : List ℕ
-  after = paste work to bytes (length bytes)
+  after = sets work to bytes
 
-  upto : take (to + length bytes) after ≡ take to work ++ bytes
+  pub upto : take (to + length bytes) after ≡ take to work ++ bytes
   upto =
-      take-paste work to bytes (length bytes) (omega arith) (omega arith) ∙ rw (take-length bytes)
+      rw (sets-eq bytes work to fits)
+      (take-at (take to work ++ bytes) _ (to + length bytes) (simp (length-append, length-take) (omega arith)))
 
   before : (m : ℕ) → m ≤ to → take m after ≡ take m work
   before m h =
@@ -74,3 +77,12 @@ module _ (work : List ℕ) (to : ℕ) (bytes : List ℕ) (fits : to + length byt
       let z : a + (m + length bytes) ≡ to + length bytes = omega arith in
       take-drop a (m + length bytes) after
       ∙ rw (z, upto, drop-append-le a (take to work) bytes (rw length-take (omega arith)), ← h, ← (take-drop a m work))
+
+-- bytes that are copied where they fit
+pub copied-length : {out : List ℕ} (l : List ℕ) (at : ℕ) (vs : List ℕ)
+    → out ≡ cond (leb (at + length vs) (length l)) (sets l at vs) l → length out ≡ length l
+copied-length l at vs e = ap length e ∙ go (leb (at + length vs) (length l))
+  where
+    go : (t : Bool) → length (cond t (sets l at vs) l) ≡ length l
+    go true = simp length-sets
+    go false = refl

@@ -14,14 +14,14 @@ use lib.Seq.{take-all, drop-drop}
 use borrow.Author.Tests.{eq-eqb, ne-eqb}
 use Rattle.answers.specs.Refusals.{refusal, none, outsideParent, outsideDomain}
 use Rattle.answers.specs.Runs.{over}
-use Rattle.answers.specs.Checks.{otherwise, each}
+use Rattle.answers.specs.Checks.{otherwise, each, moved}
 use Rattle.answers.specs.declared.Refusal.{Refusal}
 use Rattle.answers.proofs.Runs.{over-ext, over-map}
+use Rattle.answers.proofs.Moved.{moved-otherwise}
 use Rattle.description.specs.declared.Description.{Description}
 use Rattle.description.specs.Description.{sidesOf, sideStart, boxBytes}
 use Rattle.boxes.specs.Boxes.{boxRefusal}
 use Rattle.rows.specs.Code.Row.{rowBox, rowRefusal}
-use Rattle.boxes.proofs.Moving.{moved, moved-otherwise}
 use Rattle.tree.specs.Shape.{up, boxes, height, levelStart}
 use Rattle.tree.proofs.Counts.{up-enough}
 use Rattle.tree.proofs.Root.{height-one}
@@ -31,7 +31,7 @@ use Rattle.rtree.specs.Opening.{rootRefusal, innerRefusal}
 use Rattle.opening.specs.Code.Stored.{runRefusal, Run}
 use Rattle.opening.proofs.Rows.{row-said, box-moved, each-from}
 use Rattle.parts_state.specs.Code.Rest.{boxCheck}
-use Rattle.parts.specs.Code.Runs.{childCheck, placed}
+use Rattle.parts.specs.Code.Runs.{childCheck}
 use Rattle.parts.specs.Code.Steps.{Reads}
 use Rattle.parts.proofs.Lists.{alike, read-part, read-there}
 
@@ -80,7 +80,7 @@ module _ (d : Description) (n : ℕ) (domain body : List ℕ) where
         let other : eqb j (height f n) ≡ false = ne-eqb j (height f n) (λ e. omega arith) in
         rw (other, box-moved (d .kinds) (sidesOf (d .dimensions)) (take b (drop (parents + q * b) work)) outsideParent (take b (drop (i * b) bytes)) at (i * b) (omega arith), own, outer, place)
 
-    pub run-said : placed at (each (childCheck d f parents k bytes work) 0 m) ≡ each (boxCheck d n domain body j) k m
+    pub run-said : moved at (each (childCheck d f parents k bytes work) 0 m) ≡ each (boxCheck d n domain body j) k m
     run-said =
         over-map otherwise none otherwise none (moved at) refl (moved-otherwise at) (childCheck d f parents k bytes work) 0 m
         ∙ each-from _ _ 0 k m (λ i h. rw (zero-add i) (box-said i h))
@@ -95,7 +95,7 @@ module _ (d : Description) (n : ℕ) (domain body : List ℕ) where
     }
 
     pub root-said :
-        placed 16 (rowRefusal (d .kinds) (sidesOf (d .dimensions)) bytes domain outsideDomain)
+        moved 16 (rowRefusal (d .kinds) (sidesOf (d .dimensions)) bytes domain outsideDomain)
         ≡ each (boxCheck d n domain body (height f n)) 0 1
     unfolding runRefusal rootRefusal over
     root-said =

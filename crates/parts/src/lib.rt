@@ -7,21 +7,19 @@ use parts_state::Parts;
 use rtree::Opened;
 ghost use mathlib.Core.Path.{_≡_};
 ghost use mathlib.Core.Bool.{true, _&&_, cond};
-ghost use Prim.Native.Nat.{_+_, _-_, _^_, _≤_, _<_, min};
+ghost use Prim.Native.Nat.{_-_, _+_, _≤_, _<_};
 ghost use lib.Dec.{eqb};
 ghost use lib.ListN.{length, take, drop};
-ghost use lib.Seq.{paste};
 ghost use Rattle.answers.specs.Refusals.{refusal};
 ghost use Rattle.answers.specs.Checks.{otherwise, each};
 ghost use Rattle.description.specs.Description.{boxBytes};
 ghost use Rattle.tree.specs.Shape.{mostBoxBytes, shapeOf};
-ghost use Rattle.rtree.specs.Opening.{refusedIn};
 ghost use Rattle.parts_state.specs.Parts.{frontShown, whichOf, partsAnswer};
 ghost use Rattle.parts_state.specs.Took.{Carries, Answers};
 ghost use Rattle.parts_state.specs.Code.State.{itemBytes};
 ghost use Rattle.parts.specs.Code.Cursor.{withCursor, refused, keeping, fronted, counted, moved, lowered, passed};
-ghost use Rattle.parts.specs.Code.Runs.{placed, childCheck, runCheck};
-ghost use Rattle.parts.specs.Code.Steps.{InRange, RunOf, Gathered, innerIn, wholeIn};
+ghost use Rattle.parts.specs.Code.Runs.{childCheck, runCheck};
+ghost use Rattle.parts.specs.Code.Steps.{InRange, RunOf, Gathered, innerIn};
 ghost use Rattle.parts.specs.Code.Steps.{SameRoom, Stored, Takes, TakesSome, TakesNumber, TakesRun, Ends};
 
 // More than any work buffer needs.
@@ -40,7 +38,7 @@ pub fn block(parts: Parts, work: &mut [u8], bytes: &[u8]) -> Parts
         return parts;
     }
     let room = room_left(parts.stated, c.done, c.kept);
-    let all = least(room as usize, bytes.len());
+    let all = answers::lesser(room as usize, bytes.len());
     let mut held = parts.held;
     let r = take(parts, c, &mut held, work, &bytes[..all]);
     if both(all < bytes.len(), r.number == 0) {
@@ -56,17 +54,17 @@ pub fn finish(parts: Parts, work: &[u8]) -> Opened
 {
     let c = parts.cursor;
     if c.number != 0 {
-        return refused_in(c.which, c.number, c.place);
+        return rtree::refused_in(c.which, c.number, c.place);
     }
     if c.fanout == 0 {
         return finish_front(parts, work.len());
     }
     let room = room_left(parts.stated, c.done, c.kept);
     if 0 < room {
-        return refused_in(1, Refusal::BYTES, parts.stated - room);
+        return rtree::refused_in(1, Refusal::BYTES, parts.stated - room);
     }
     if c.box_number != 0 {
-        return refused_in(1, c.box_number, c.box_place);
+        return rtree::refused_in(1, c.box_number, c.box_place);
     }
     Opened {
         number: 0,
@@ -94,7 +92,7 @@ pub fn open_in_blocks(
     let mut s = parts_state::start(description, file_size, footer, body.len() as u64);
     let mut at: usize = 0;
     while at < body.len() {
-        let end = at + least(most, body.len() - at);
+        let end = at + answers::lesser(most, body.len() - at);
         s = block(s, work, &body[at..end]);
         at = end;
     }
@@ -112,22 +110,9 @@ fn finish_front(parts: Parts, room: usize) -> Opened
     let box_bytes = parts.description.box_bytes();
     let told = check_front(parts.tiles, box_bytes, parts.stated, room, kept, fanout, 0);
     if told.number != 0 {
-        return refused_in(which_of(told.number), told.number, told.place);
+        return rtree::refused_in(which_of(told.number), told.number, told.place);
     }
-    refused_in(1, Refusal::BYTES, kept as u64)
-}
-
-fn refused_in(which: u64, number: u64, place: u64) -> Opened
-    ensures { λ r. ⌜ r ≡ refusedIn which (refusal number place) ⌝ }
-{
-    Opened {
-        number: number,
-        place: place,
-        which: which,
-        tiles: 0,
-        fanout: 0,
-        levels: 0,
-    }
+    rtree::refused_in(1, Refusal::BYTES, kept as u64)
 }
 
 // The work buffer is neither footer nor body: 21 says the first.
@@ -347,7 +332,7 @@ fn step(
     if c.count <= c.index {
         return c;
     }
-    let boxes = least(c.count - c.index, from.len() / box_bytes);
+    let boxes = answers::lesser(c.count - c.index, from.len() / box_bytes);
     let whole = boxes * box_bytes;
     take_boxes(parts, box_bytes, c, work, &from[..whole], boxes)
 }
@@ -363,8 +348,8 @@ fn gather(held: &mut [u8], kept: usize, bytes: &[u8], item: usize) -> usize
     if both(kept == 0, item <= bytes.len()) {
         return 0;
     }
-    let more = least(item - kept, bytes.len());
-    put(held, kept, &bytes[..more]);
+    let more = answers::lesser(item - kept, bytes.len());
+    order::copy(held, kept, &bytes[..more]);
     kept + more
 }
 
@@ -432,16 +417,13 @@ fn check_front(
 ) -> Refusal
     requires { ⌜ «box_bytes» ≤ mostBoxBytes ⌝ }
     ensures { λ r. ⌜ r ≡ frontShown stated room have fanout levels (shapeOf fanout tiles «box_bytes» .levels)
-        (wholeIn fanout tiles «box_bytes») (innerIn fanout tiles «box_bytes») ⌝ }
+        (shapeOf fanout tiles «box_bytes» .bytes) (innerIn fanout tiles «box_bytes») ⌝ }
 {
     let shape = tree::shape_of(tiles as usize, fanout, box_bytes);
     let inner = inner_boxes(shape.boxes, tiles as usize);
-    let whole = 8 + 8 * shape.levels + box_bytes * shape.boxes;
-    let least = Description::LEAST_FANOUT as u64;
-    let most = Description::MOST_FANOUT as u64;
-    let no_fanout = both(4 <= have, description::outside(least, most, fanout as u64));
+    let no_fanout = both(4 <= have, Description::fanout_outside(fanout as u64));
     let no_levels = both(8 <= have, levels != shape.levels);
-    let no_whole = both(4 <= have, stated != whole as u64);
+    let no_whole = both(4 <= have, stated != shape.bytes as u64);
     let no_room = both(4 <= have, room < box_bytes * inner);
     Refusal::when(stated < 8, Refusal::BYTES, stated)
         .or(Refusal::when(no_fanout, Refusal::FANOUT, 0))
@@ -478,7 +460,7 @@ fn take_count(parts: Parts, box_bytes: usize, cursor: Cursor, room: usize, bytes
     }
     let shape = tree::shape_of(parts.tiles as usize, cursor.fanout, box_bytes);
     let table = shape.table;
-    let count = table[2 * level + 1];
+    let count = tree::count_in(&table, level);
     if order::u64_at(bytes, 0) != count as u64 {
         return refuse(cursor, Refusal::LEVELS, cursor.done, 1);
     }
@@ -502,7 +484,7 @@ fn take_boxes(
     let mut c = cursor;
     let mut i: usize = 0;
     while i < boxes {
-        let more = least(most, boxes - i);
+        let more = answers::lesser(most, boxes - i);
         let from = i * box_bytes;
         let to = from + more * box_bytes;
         c = take_run(parts, box_bytes, c, work, &bytes[from..to], more);
@@ -568,24 +550,13 @@ fn check_boxes(
         let kinds = d.kinds;
         let outer = &domain[..box_bytes];
         let told = rows::check_row(bytes, kinds, d.dimensions, outer, Refusal::OUTSIDE_DOMAIN);
-        return placed(told, 16);
+        return told.moved(16);
     }
     if cursor.fanout == 0 {
         return Refusal::none();
     }
     let told = check_rows(parts, box_bytes, cursor, work, bytes, boxes);
-    placed(told, cursor.done)
-}
-
-// A refusal that is placed from a start on.
-fn placed(told: Refusal, start: u64) -> Refusal
-    requires { ⌜ start + told .place < 2 ^ 64 ⌝ }
-    ensures { λ r. ⌜ r ≡ placed start told ⌝ }
-{
-    if told.number == 0 {
-        return told;
-    }
-    Refusal::new(told.number, start + told.place)
+    told.moved(cursor.done)
 }
 
 // So many boxes of a level, row by row: each row, or what is there of it, inside its parent, which stands at `place` of
@@ -613,25 +584,20 @@ fn check_rows(
     let mut row = fanout - (index - parent * fanout);
     let mut i: usize = 0;
     while i < boxes {
-        let more = least(row, boxes - i);
+        let more = answers::lesser(row, boxes - i);
         let from = i * box_bytes;
         let here = &bytes[from..from + more * box_bytes];
         let outer = part(work, place, box_bytes);
         let told = rows::check_row(here, kinds, d.dimensions, outer, Refusal::OUTSIDE_PARENT);
-        if told.number != 0 {
-            return Refusal::new(told.number, from as u64 + told.place);
+        let there = told.moved(from as u64);
+        if there.number != 0 {
+            return there;
         }
         i += more;
         place += box_bytes;
         row = fanout;
     }
     Refusal::none()
-}
-
-fn least(a: usize, b: usize) -> usize
-    ensures { λ r. ⌜ r ≡ min a b ⌝ }
-{
-    if a < b { a } else { b }
 }
 
 // So many bytes from a place on, as far as they exist.
@@ -656,23 +622,5 @@ fn store(work: &mut [u8], level: usize, to: usize, bytes: &[u8])
     if level == 0 {
         return;
     }
-    if work.len() < to {
-        return;
-    }
-    if work.len() - to < bytes.len() {
-        return;
-    }
-    put(work, to, bytes);
-}
-
-// Bytes go to their place.
-fn put(to: &mut [u8], at: usize, bytes: &[u8])
-    requires { ⌜ at + length (now bytes) ≤ length (now to) ⌝ }
-    ensures { λ _. ⌜ now (to .exit) ≡ paste (now (to .entry)) at (now (bytes .entry)) (length (now (bytes .entry))) ⌝ }
-{
-    let mut i: usize = 0;
-    while i < bytes.len() {
-        to[at + i] = bytes[i];
-        i += 1;
-    }
+    order::copy(work, to, bytes);
 }

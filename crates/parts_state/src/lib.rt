@@ -116,10 +116,6 @@ fn padded(bytes: &[u8]) -> [u8; 64]
     ensures { λ r. ⌜ take (length (now (bytes .entry))) r ≡ now (bytes .entry) ⌝ }
 {
     let mut all = [0u8; 64];
-    let mut i: usize = 0;
-    while i < bytes.len() {
-        all[i] = bytes[i];
-        i += 1;
-    }
+    order::copy(&mut all, 0, bytes);
     all
 }

@@ -147,7 +147,7 @@ fn refused(number: u64, place: u64) -> Answer
 fn check_asked(description: Description, tiles: u64, window: Window) -> Refusal
     ensures { λ r. ⌜ r ≡ askedRefusal description tiles window ⌝ }
 {
-    let outside = description::outside(Description::LEAST_TILES, Description::MOST_TILES, tiles);
+    let outside = Description::tiles_outside(tiles);
     description
         .check()
         .or(Refusal::when(outside, Refusal::TILES, 0))

@@ -92,12 +92,6 @@ fn file_buffer() -> [u8; 65_537] {
 // The bytes of the text that are written at a time, so that the stack has room for them.
 const PART: usize = 65_536;
 
-fn smaller(a: usize, b: usize) -> usize
-    ensures { λ r. ⌜ r ≤ b ⌝ }
-{
-    if a < b { a } else { b }
-}
-
 // Writes the part of the text from a byte on, and says whether there may be more.
 fn print_from(description: &[u8], footer: &[u8], tree: &[u8], offsets: &[u8], from: usize) -> bool {
     let mut out = io::large_buffer();
@@ -105,7 +99,7 @@ fn print_from(description: &[u8], footer: &[u8], tree: &[u8], offsets: &[u8], fr
     if count <= from {
         return false;
     }
-    let n = smaller(count - from, PART);
+    let n = answers::lesser(count - from, PART);
     let written = io::write_all(STDOUT_FILENO, &out[0..n]);
     if !written {
         os::fail(b"standard output");

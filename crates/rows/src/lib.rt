@@ -204,8 +204,6 @@ fn box_fault(
         start) ⌝ }
 {
     let told = boxes::check_ranges(bytes, kinds, dimensions);
-    if told.number != 0 {
-        return Refusal::new(told.number, start as u64 + told.place);
-    }
-    Refusal::new(number, start as u64)
+    let here = start as u64;
+    told.moved(here).or(Refusal::new(number, here))
 }

@@ -36,7 +36,6 @@ box-bytes-most d = omega (arith, start-most (d .kinds) (sidesOf (d .dimensions))
 
 -- whatever the numbers are, a shape is small, and before a level's first box there is room for its count
 pub record Small (s : Shape) : Type 0 where
-  pub levels-few : s .levels ≤ 25
   pub boxes-few : s .boxes ≤ 25 * mostTiles
   pub counted : (j : ℕ) → j < s .levels → 8 ≤ getD (s .table) (2 * j) 0
 
@@ -46,14 +45,12 @@ small f n b = go (outsideLimits f n b) refl
   where
     go : (t : Bool) → outsideLimits f n b ≡ t → Small (shapeOf f n b)
     go true e = rw (← (shape-outside f n b e)) (record {
-      levels-few = omega arith;
       boxes-few = omega arith;
       counted = λ j h. absurd (omega arith);
     })
     go false e =
         let z = sizes f n b e in
         record {
-          levels-few = omega (arith, shape-levels (z .0) b (z .1), levels-most (z .0));
           boxes-few = omega (arith, shape-boxes (z .0) b (z .1), boxes-small (z .0));
           counted = λ j h. omega (arith, start-at (z .0) b (z .1) j (omega (arith, shape-levels (z .0) b (z .1))));
         }
@@ -109,7 +106,7 @@ module _ (d : Description) (n : ℕ) (body : List ℕ) where
       last (countsRefusal f n b g) (each-none level 0 (levels f n))
 
   rest : front .number ≡ 0
-      → otherwise (size (s .levels) (8 + 8 * s .levels + b * s .boxes)) (tableRefusal body (s .table) (s .levels))
+      → otherwise (size (s .levels) (s .bytes)) (tableRefusal body (s .table) (s .levels))
       ≡ first (size (levels f n) (bodyBytes f n b) ∷ countsRefusal f n b (storedCount n b body) ∷ [])
   unfolding first
   rest h =
@@ -121,7 +118,7 @@ module _ (d : Description) (n : ℕ) (body : List ℕ) where
       (ap (otherwise (size (levels f n) (bodyBytes f n b))) (sym (counts-last (storedCount n b body))))
 
   pub shaped : {r : Refusal}
-      → r ≡ otherwise (otherwise front (size (s .levels) (8 + 8 * s .levels + b * s .boxes)))
+      → r ≡ otherwise (otherwise front (size (s .levels) (s .bytes)))
       (tableRefusal body (s .table) (s .levels))
       → r ≡ shapedRefusal d n body
   unfolding shapeRefusal first

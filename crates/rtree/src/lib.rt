@@ -3,12 +3,13 @@ use answers::Refusal;
 use description::Description;
 use tree::Shape;
 ghost use mathlib.Core.Path.{_≡_};
-ghost use Prim.Native.Nat.{ℕ, _+_, _*_, _≤_, _<_};
-ghost use lib.ListN.{length, getD};
+ghost use Prim.Native.Nat.{ℕ, _≤_, _<_};
+ghost use lib.ListN.{length};
+ghost use Rattle.answers.specs.Refusals.{refusal};
 ghost use Rattle.answers.specs.Checks.{otherwise};
-ghost use Rattle.description.specs.Limits.{mostTiles};
-ghost use Rattle.tree.specs.Shape.{mostBoxBytes};
+ghost use Rattle.tree.specs.Shape.{placeIn};
 ghost use Rattle.rtree.specs.Body.{levelsOf, frontRefusal, sizeRefusal};
+ghost use Rattle.rtree.specs.Opening.{refusedIn};
 ghost use Rattle.rtree.specs.Code.Shaped.{IsShaped, tilesRefusal, tableRefusal};
 
 // What opening answers. `which` of the two byte strings the place counts in: 0 the footer, 1 the body.
@@ -19,6 +20,20 @@ pub struct Opened {
     pub tiles: u64,
     pub fanout: u64,
     pub levels: u64,
+}
+
+// Refused: every other number is 0.
+pub fn refused_in(which: u64, number: u64, place: u64) -> Opened
+    ensures { λ r. ⌜ r ≡ refusedIn which (refusal number place) ⌝ }
+{
+    Opened {
+        number: number,
+        place: place,
+        which: which,
+        tiles: 0,
+        fanout: 0,
+        levels: 0,
+    }
 }
 
 // What the check of a body's shape tells: its refusal, the stored fanout, and the shape that the tree has with it.
@@ -39,7 +54,7 @@ pub fn check_shape(description: Description, tiles: u64, body: &[u8]) -> Shaped
     let shape = tree::shape_of(tiles as usize, fanout, box_bytes);
     let table = shape.table;
     let told = check_front(tiles, body.len(), fanout)
-        .or(check_size(body, box_bytes, shape.levels, shape.boxes))
+        .or(check_size(body, shape.levels, shape.bytes))
         .or(check_counts(body, &table, shape.levels));
     Shaped {
         number: told.number,
@@ -53,26 +68,19 @@ pub fn check_shape(description: Description, tiles: u64, body: &[u8]) -> Shaped
 fn check_front(tiles: u64, bytes: usize, fanout: usize) -> Refusal
     ensures { λ r. ⌜ r ≡ otherwise (tilesRefusal tiles) (frontRefusal bytes fanout) ⌝ }
 {
-    let least = Description::LEAST_FANOUT as u64;
-    let most = Description::MOST_FANOUT as u64;
-    let no_tiles = description::outside(Description::LEAST_TILES, Description::MOST_TILES, tiles);
-    let no_fanout = description::outside(least, most, fanout as u64);
+    let no_tiles = Description::tiles_outside(tiles);
+    let no_fanout = Description::fanout_outside(fanout as u64);
     Refusal::when(no_tiles, Refusal::TILES, 0)
         .or(Refusal::when(bytes < 8, Refusal::BYTES, bytes as u64))
         .or(Refusal::when(no_fanout, Refusal::FANOUT, 0))
 }
 
 // The number of levels, 14; the bytes of the whole, 2.
-fn check_size(body: &[u8], box_bytes: usize, levels: usize, boxes: usize) -> Refusal
-    requires { ⌜ levels ≤ 25 ⌝ }
-    requires { ⌜ boxes ≤ 25 * mostTiles ⌝ }
-    requires { ⌜ «box_bytes» ≤ mostBoxBytes ⌝ }
-    ensures { λ r. ⌜ r ≡ sizeRefusal levels (8 + 8 * levels + «box_bytes» * boxes)
-        (length (now (body .entry))) (levelsOf (now (body .entry))) ⌝ }
+fn check_size(body: &[u8], levels: usize, whole: usize) -> Refusal
+    ensures { λ r. ⌜ r ≡ sizeRefusal levels whole (length (now (body .entry))) (levelsOf (now (body .entry))) ⌝ }
 {
     let bytes = body.len();
     let stored = order::u32_at(body, 4) as usize;
-    let whole = 8 + 8 * levels + box_bytes * boxes;
     Refusal::when(stored != levels, Refusal::LEVELS, 4).or(Refusal::when(
         bytes != whole,
         Refusal::BYTES,
@@ -83,15 +91,14 @@ fn check_size(body: &[u8], box_bytes: usize, levels: usize, boxes: usize) -> Ref
 // Each level's count, from the root's down: the table has the place of a level's first box, before which its count
 // stands, and what it has to be.
 fn check_counts(body: &[u8], table: &[usize; 50], levels: usize) -> Refusal
-    requires { ⌜ levels ≤ 25 ⌝ }
-    requires { ⌜ ((j : ℕ) → j < levels → 8 ≤ getD (now table) (2 * j) 0) ⌝ }
+    requires { ⌜ ((j : ℕ) → j < levels → 8 ≤ placeIn (now table) j) ⌝ }
     ensures { λ r. ⌜ r ≡ tableRefusal (now (body .entry)) (now (table .entry)) levels ⌝ }
 {
     let mut i: usize = 0;
     while i < levels {
-        let at = 2 * (levels - 1 - i);
-        let place = table[at] - 8;
-        let count = table[at + 1];
+        let j = levels - 1 - i;
+        let place = tree::place_in(table, j) - 8;
+        let count = tree::count_in(table, j);
         let wrong = order::u64_at(body, place) != count as u64;
         let told = Refusal::when(wrong, Refusal::LEVELS, place as u64);
         if told.number != 0 {

@@ -9,7 +9,7 @@ use lib.Dec.{leb}
 use lib.ListN.{getD, replicate}
 use Rattle.answers.specs.Runs.{over}
 use Rattle.tree.specs.Shape.{up, boxes, children, heightAbove, height, levels}
-use Rattle.tree.specs.Shape.{allBoxes, boxesAbove, levelStart, placesAndCounts, shapeOf}
+use Rattle.tree.specs.Shape.{allBoxes, boxesAbove, levelStart, bodyBytes, placesAndCounts, shapeOf}
 use Rattle.tree.specs.Flat.{inner, flatCount}
 
 -- minima and maxima at distance 0, 1, 2
@@ -32,8 +32,8 @@ flat-counts : (flatCount 2 3 (A 12 21) ≡ 6) × (flatCount 2 3 (A 5 9) ≡ 5)
 unfolding inner A minima maxima over children height heightAbove boxes up
 flat-counts = (refl, refl)
 
--- three levels, six boxes; the leaves stand at 56, the boxes above them at 32, the root at 16
+-- three levels, six boxes, 80 bytes; the leaves stand at 56, the boxes above them at 32, the root at 16
 shape-a : shapeOf 2 3 8
-    ≡ record { levels = 3; boxes = 6; table = (56 ∷ 3 ∷ 32 ∷ 2 ∷ 16 ∷ 1 ∷ []) ++ replicate 44 0 }
-unfolding shapeOf placesAndCounts levelStart boxesAbove allBoxes levels height heightAbove boxes up over
+    ≡ record { levels = 3; boxes = 6; bytes = 80; table = (56 ∷ 3 ∷ 32 ∷ 2 ∷ 16 ∷ 1 ∷ []) ++ replicate 44 0 }
+unfolding shapeOf placesAndCounts levelStart boxesAbove bodyBytes allBoxes levels height heightAbove boxes up over
 shape-a = refl

@@ -80,13 +80,18 @@ module _ (g h : ℕ → ℕ) where
 
 -- the value
 pub shape-outside : (f n b : ℕ) → outsideLimits f n b ≡ true
-    → record { levels = 0; boxes = 0; table = replicate 50 0 } ≡ shapeOf f n b
+    → record { levels = 0; boxes = 0; bytes = 0; table = replicate 50 0 } ≡ shapeOf f n b
 unfolding shapeOf
 shape-outside f n b e = rw e
 
 module _ {n f : ℕ} (z : Sizes n f) (b : ℕ) (w : b ≤ mostBoxBytes) where
   pub shape-inside : shapeOf f n b
-      ≡ record { levels = levels f n; boxes = allBoxes f n; table = laid (placesAndCounts f n b) (replicate 50 0) }
+      ≡ record {
+        levels = levels f n;
+        boxes = allBoxes f n;
+        bytes = bodyBytes f n b;
+        table = laid (placesAndCounts f n b) (replicate 50 0);
+      }
   unfolding shapeOf
   shape-inside = rw (inside-limits z b w)
 
@@ -96,9 +101,8 @@ module _ {n f : ℕ} (z : Sizes n f) (b : ℕ) (w : b ≤ mostBoxBytes) where
   pub shape-boxes : shapeOf f n b .boxes ≡ allBoxes f n
   shape-boxes = rw shape-inside
 
-  pub shape-bytes : 8 + 8 * shapeOf f n b .levels + b * shapeOf f n b .boxes ≡ bodyBytes f n b
-  unfolding bodyBytes
-  shape-bytes = rw (shape-levels, shape-boxes)
+  pub shape-bytes : shapeOf f n b .bytes ≡ bodyBytes f n b
+  shape-bytes = rw shape-inside
 
   -- the table
   pub table-length : length (shapeOf f n b .table) ≡ 50
@@ -143,3 +147,8 @@ module _ {n f : ℕ} (z : Sizes n f) (b : ℕ) (w : b ≤ mostBoxBytes) where
       go : Dec (j ≤ height f n) → getD (shapeOf f n b .table) (2 * j + 1) 0 ≤ mostTiles
       go (yes a) = omega (arith, count-at j a, boxes-le f n j (omega arith) (z .some), z .most)
       go (no a) = omega (arith, past-root j (omega arith) .1)
+
+-- what holds of two levels' places and counts holds of them as they are read
+pub as-read : (P : ℕ → ℕ → ℕ → ℕ → Type 0) {a b c d a′ b′ c′ d′ : ℕ} → a ≡ a′ → b ≡ b′ → c ≡ c′ → d ≡ d′
+    → P a b c d → P a′ b′ c′ d′
+as-read P p q r s h = rw (← p, ← q, ← r, ← s) h

@@ -6,7 +6,7 @@ use Prim.Native.Nat.{ℕ, zero, suc, _+_, _-_, _*_, _/_, min}
 use mathlib.Core.Bool.{Bool, _||_, cond}
 use mathlib.Core.List.{List, [], _∷_}
 use lib.Dec.{leb, ltb}
-use lib.ListN.{replicate}
+use lib.ListN.{getD, replicate}
 use Rattle.answers.specs.Laid.{laid}
 use Rattle.answers.specs.Runs.{sum, join}
 use Rattle.description.specs.Limits.{leastTiles, mostTiles, leastFanout, mostFanout, outside}
@@ -74,5 +74,17 @@ placesAndCounts f n b = join (λ j. levelStart f n b j ∷ boxes f n j ∷ []) 0
 unfoldable pub shapeOf : ℕ → ℕ → ℕ → Shape
 shapeOf f n b =
     cond (outsideLimits f n b)
-    (record { levels = 0; boxes = 0; table = replicate 50 0 })
-    (record { levels = levels f n; boxes = allBoxes f n; table = laid (placesAndCounts f n b) (replicate 50 0) })
+    (record { levels = 0; boxes = 0; bytes = 0; table = replicate 50 0 })
+    (record {
+      levels = levels f n;
+      boxes = allBoxes f n;
+      bytes = bodyBytes f n b;
+      table = laid (placesAndCounts f n b) (replicate 50 0);
+    })
+
+-- Of the level at distance j, in a table of places and counts: the place of its first box, and its box count.
+abbrev pub placeIn : List ℕ → ℕ → ℕ
+placeIn table j = getD table (2 * j) 0
+
+abbrev pub countIn : List ℕ → ℕ → ℕ
+countIn table j = getD table (2 * j + 1) 0

@@ -6,7 +6,7 @@ ghost use Prim.Native.Nat.{_+_, _-_, _*_, _≤_, min};
 ghost use lib.Seq.{sets};
 ghost use Rattle.description.specs.Limits.{Sizes};
 ghost use Rattle.tree.specs.Shape.{up, levels, allBoxes, levelStart, mostBoxBytes};
-ghost use Rattle.tree.specs.Shape.{outsideLimits, placesAndCounts, shapeOf};
+ghost use Rattle.tree.specs.Shape.{outsideLimits, placesAndCounts, shapeOf, placeIn, countIn};
 
 // The most bytes of a box: four dimensions of 16.
 const MOST_BOX_BYTES: usize = 64;
@@ -17,6 +17,8 @@ pub struct Shape {
     pub levels: usize,
     // all boxes
     pub boxes: usize,
+    // 8 + 8L + B times all boxes: the bytes of the whole body
+    pub bytes: usize,
     // by distance j from the leaves: the place of the level's first box at 2j, its box count at 2j + 1; 0 past the root
     pub table: [usize; 50],
 }
@@ -30,6 +32,7 @@ pub fn shape_of(tiles: usize, fanout: usize, box_bytes: usize) -> Shape
         return Shape {
             levels: 0,
             boxes: 0,
+            bytes: 0,
             table: table,
         };
     }
@@ -37,6 +40,7 @@ pub fn shape_of(tiles: usize, fanout: usize, box_bytes: usize) -> Shape
     Shape {
         levels: filled.levels,
         boxes: filled.boxes,
+        bytes: 8 + 8 * filled.levels + box_bytes * filled.boxes,
         table: table,
     }
 }
@@ -48,21 +52,35 @@ pub fn row_length(fanout: usize, below: usize, first: usize) -> usize
     if below <= first {
         return 0;
     }
-    let rest = below - first;
-    if rest < fanout { rest } else { fanout }
+    answers::lesser(fanout, below - first)
+}
+
+// Of the level at distance j, in a shape's table: the place of its first box.
+pub fn place_in(table: &[usize], j: usize) -> usize
+    ensures { λ r. ⌜ r ≡ placeIn (now (table .entry)) j ⌝ }
+{
+    let n = table.len();
+    if j < n - n / 2 { table[2 * j] } else { 0 }
+}
+
+// And its box count.
+pub fn count_in(table: &[usize], j: usize) -> usize
+    ensures { λ r. ⌜ r ≡ countIn (now (table .entry)) j ⌝ }
+{
+    if j < table.len() / 2 {
+        table[2 * j + 1]
+    } else {
+        0
+    }
 }
 
 fn outside_limits(tiles: usize, fanout: usize, box_bytes: usize) -> bool
     ensures { λ r. ⌜ r ≡ outsideLimits fanout tiles «box_bytes» ⌝ }
 {
-    let n = tiles as u64;
-    if description::outside(Description::LEAST_TILES, Description::MOST_TILES, n) {
+    if Description::tiles_outside(tiles as u64) {
         return true;
     }
-    let least = Description::LEAST_FANOUT as u64;
-    let most = Description::MOST_FANOUT as u64;
-    let f = fanout as u64;
-    if description::outside(least, most, f) {
+    if Description::fanout_outside(fanout as u64) {
         return true;
     }
     MOST_BOX_BYTES < box_bytes

@@ -32,7 +32,7 @@ use Rattle.written.proofs.Boxes.{box-sized, box-numbers}
 use Rattle.leaves.specs.Code.Sound.{boxIn}
 use Rattle.leaves.proofs.Ends.{ends-part}
 use Rattle.writer.specs.Code.Rows.{parentOf, levelOf, NoNan, Levels, Filling}
-use Rattle.writer.proofs.Stores.{drop-from, store-both}
+use Rattle.order.proofs.Stores.{drop-from, store-both}
 use Rattle.writer.proofs.Choosing.{best-same}
 
 -- the boxes of a row decide the least box around it

@@ -1,5 +1,4 @@
 -- The laws that belong to no one function.
-pub mod Stores
 pub mod Choosing
 pub mod Sides
 pub mod Floats

@@ -29,7 +29,7 @@ use Rattle.tree.proofs.Counts.{first-child}
 use Rattle.leaves.specs.Code.Sound.{boxIn}
 use Rattle.leaves.proofs.Ends.{ends-part}
 use Rattle.writer.specs.Code.Rows.{lowestOf, highestOf, sideOf, parentOf, levelOf, Levels}
-use Rattle.writer.proofs.Stores.{drop-past, store-both, store-next}
+use Rattle.order.proofs.Stores.{drop-past, store-both, store-next}
 use Rattle.writer.proofs.Choosing.{best-same}
 use Rattle.writer.proofs.Sides.{lowest-in, highest-in, box-before}
 

@@ -15,7 +15,7 @@ use Rattle.description.proofs.Sides.{two-ends, range-bytes-most}
 use Rattle.ranges.specs.Ranges.{endsAt}
 use Rattle.boxes.proofs.Least.{best-in}
 use Rattle.writer.specs.Code.Rows.{lowestOf, highestOf, sideOf, SideRow}
-use Rattle.writer.proofs.Stores.{bytes-there}
+use Rattle.order.proofs.Stores.{bytes-there}
 
 module _ (kind : Kind) (rest : List ℕ) (b side k more : ℕ) where
   pub lowest-in : (k ≤ lowestOf kind rest b side k more) × (lowestOf kind rest b side k more < k + suc more)

@@ -11,7 +11,7 @@ ghost use Rattle.answers.specs.Runs.{join};
 ghost use Prim.Native.Nat.{_+_, _-_, _*_, _%_, _^_, _≤_, _<_};
 ghost use lib.Dec.{ltb};
 ghost use lib.Ieee.{lt, le};
-ghost use lib.ListN.{length, getD, drop};
+ghost use lib.ListN.{length, drop};
 ghost use lib.Seq.{sets};
 ghost use mir.Syntax.{w32};
 ghost use Rattle.order.specs.Key.{signedKey};
@@ -20,7 +20,7 @@ ghost use Rattle.description.specs.Kinds.{endBytes, rangeBytes, key};
 ghost use Rattle.description.specs.Description.{sidesOf, boxBytes};
 ghost use Rattle.ranges.specs.Ranges.{endsAt};
 ghost use Rattle.boxes.specs.Least.{around};
-ghost use Rattle.tree.specs.Shape.{bodyBytes};
+ghost use Rattle.tree.specs.Shape.{bodyBytes, placeIn, countIn};
 ghost use Rattle.written.specs.Body.{writtenBody};
 ghost use Rattle.written.specs.Writing.{writeAnswer, writeBuffer};
 ghost use Rattle.leaves.specs.Code.Sound.{boxIn};
@@ -58,9 +58,9 @@ fn fill(description: Description, tiles: usize, fanout: usize, leaves: &[u8], ou
     let shape = tree::shape_of(tiles, fanout, box_bytes);
     let table = shape.table;
     let levels = shape.levels;
-    let start = table[0];
+    let start = tree::place_in(&table, 0);
     order::put_u64(out, start - 8, tiles as u64);
-    copy(out, start, leaves);
+    order::copy(out, start, leaves);
     let mut j: usize = 1;
     while j < levels {
         put_level(out, description, fanout, &table, j);
@@ -70,33 +70,21 @@ fn fill(description: Description, tiles: usize, fanout: usize, leaves: &[u8], ou
     order::put_u32(out, 4, levels as u32);
 }
 
-fn copy(out: &mut [u8], at: usize, bytes: &[u8])
-    requires { ⌜ at + length (now bytes) ≤ length (now out) ⌝ }
-    ensures { λ _. ⌜ now (out .exit) ≡ sets (now (out .entry)) at (now (bytes .entry)) ⌝ }
-{
-    let mut i: usize = 0;
-    while i < bytes.len() {
-        out[at + i] = bytes[i];
-        i += 1;
-    }
-}
-
 // The level at distance j: its count, and each of its boxes, made of a row of the level below.
 fn put_level(out: &mut [u8], description: Description, fanout: usize, table: &[usize; 50], j: usize)
-    requires { ⌜ (0 < j) × (j < 25) ⌝ }
-    requires { ⌜ Levels (now out) (boxBytes description) fanout (getD (now table) (2 * j) 0)
-        (getD (now table) (2 * j + 1) 0) (getD (now table) (2 * (j - 1)) 0) (getD (now table) (2 * (j - 1) + 1) 0) ⌝ }
-    requires { ⌜ NoNan description (drop (getD (now table) (2 * (j - 1)) 0) (now out)) 0
-        (getD (now table) (2 * (j - 1) + 1) 0) ⌝ }
-    ensures { λ _. ⌜ now (out .exit) ≡ sets (now (out .entry)) (getD (now (table .entry)) (2 * j) 0 - 8)
-        (levelOf description fanout (drop (getD (now (table .entry)) (2 * (j - 1)) 0) (now (out .entry)))
-        (getD (now (table .entry)) (2 * (j - 1) + 1) 0) (getD (now (table .entry)) (2 * j + 1) 0)) ⌝ }
+    requires { ⌜ 0 < j ⌝ }
+    requires { ⌜ Levels (now out) (boxBytes description) fanout (placeIn (now table) j) (countIn (now table) j)
+        (placeIn (now table) (j - 1)) (countIn (now table) (j - 1)) ⌝ }
+    requires { ⌜ NoNan description (drop (placeIn (now table) (j - 1)) (now out)) 0 (countIn (now table) (j - 1)) ⌝ }
+    ensures { λ _. ⌜ now (out .exit) ≡ sets (now (out .entry)) (placeIn (now (table .entry)) j - 8)
+        (levelOf description fanout (drop (placeIn (now (table .entry)) (j - 1)) (now (out .entry)))
+        (countIn (now (table .entry)) (j - 1)) (countIn (now (table .entry)) j)) ⌝ }
 {
     let below = j - 1;
-    let start = table[2 * j];
-    let parents = table[2 * j + 1];
-    let next = table[2 * below];
-    let count = table[2 * below + 1];
+    let start = tree::place_in(table, j);
+    let parents = tree::count_in(table, j);
+    let next = tree::place_in(table, below);
+    let count = tree::count_in(table, below);
     order::put_u64(out, start - 8, parents as u64);
     put_rows(out, description, fanout, start, parents, next, count);
 }

@@ -8,6 +8,7 @@ extern "C" {
     fn tussockbell_footer(k: *const u8, kl: usize, fields: u64, capacity: u64, file: u64, f: *const u8, fl: usize, answer: *mut u64);
     fn tussockbell_schema_name(k: *const u8, kl: usize, fields: u64, capacity: u64, file: u64, f: *const u8, fl: usize, answer: *mut u64);
     fn tussockbell_cells(k: *const u8, kl: usize, fields: u64, capacity: u64, file: u64, f: *const u8, fl: usize, tile: u64) -> u64;
+    fn tussockbell_cells_at(tiles: u64, last: u64, capacity: u64, tile: u64) -> u64;
     fn tussockbell_total_cells(k: *const u8, kl: usize, fields: u64, capacity: u64, file: u64, f: *const u8, fl: usize) -> u64;
     fn tussockbell_open(
         k: *const u8, kl: usize, fields: u64, capacity: u64, file: u64, f: *const u8, fl: usize, t: *const u8, tl: usize, answer: *mut u64,
@@ -40,6 +41,8 @@ extern "C" {
 }
 
 const FOOTER_PLACES: usize = 730;
+const FOOTER_TILES: usize = 6;
+const FOOTER_LAST_CELLS: usize = 7;
 
 /// Bytes to lend: where they are, or a copy between guard pages.
 fn lend(data: &[u8], space: &mut Option<&mut Space>) -> *const u8 {
@@ -200,7 +203,10 @@ fn footer_answer(d: &Description, k: *const u8, file: u64, f: *const u8, length:
     unsafe {
         tussockbell_footer(k, kl, fields, capacity, file, f, length, answer.as_mut_ptr());
         tussockbell_schema_name(k, kl, fields, capacity, file, f, length, answer[FOOTER_PLACES..].as_mut_ptr());
-        answer.push(tussockbell_cells(k, kl, fields, capacity, file, f, length, tile));
+        let cells = tussockbell_cells(k, kl, fields, capacity, file, f, length, tile);
+        let again = tussockbell_cells_at(answer[FOOTER_TILES], answer[FOOTER_LAST_CELLS], capacity, tile);
+        assert_eq!(cells, again, "the two requests for a tile's cells differ");
+        answer.push(cells);
         answer.push(tussockbell_total_cells(k, kl, fields, capacity, file, f, length));
     }
     answer

@@ -14,13 +14,13 @@ returns c =
     let first = second .before .before in
     rw (
       c .of4 .ensures,
-      fourth .number-at4 .ensures,
+      fourth .byte-at4 .ensures,
       fourth .before .of3 .ensures,
-      third .number-at3 .ensures,
+      third .byte-at3 .ensures,
       third .before .of2 .ensures,
-      second .number-at2 .ensures,
+      second .byte-at2 .ensures,
       second .before .of .ensures,
-      first .number-at .ensures,
+      first .byte-at .ensures,
     )
 
 pub dimensions-of-spec : {M : Type 1} → statement M

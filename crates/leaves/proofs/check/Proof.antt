@@ -7,6 +7,9 @@ use lib.ListN.{length}
 use borrow.Author.Needs.{needs}
 use Rattle.description.specs.Limits.{Sizes}
 use Rattle.description.specs.Description.{boxBytes}
+use Rattle.tree.specs.declared.Shape.{Shape}
+use Rattle.tree.specs.Shape.{bodyBytes}
+use Rattle.tree.proofs.Table.{shape-bytes}
 use Rattle.rtree.proofs.Passed.{box-bytes-most}
 use Rattle.written.specs.Writing.{refusedWriting, lengthTold, sizesRefusal}
 use Rattle.written.proofs.Tree.{sizes-clear}
@@ -58,12 +61,21 @@ returns-3 c =
     ∙ rw e (by-leaves (x .description) (x .tiles) (x .fanout) (x .leaves .now) (x .room) (passed (w .before)) (whole w)
     (rw e at (c .before .if3 .taken)))
 
+-- the bytes of the whole
+total : (c : tie.After-shape-of) → (let x = c .before .before .before .before .before .before .before .before .before .before .args in
+    c .shape-of .result .bytes ≡ bodyBytes (x .fanout) (x .tiles) (boxBytes (x .description)))
+total c =
+    let k = c .before .before .before .before .before in
+    let d = k .before .before .before .before .before .args .description in
+    ap (λ (s : Shape). s .bytes) (c .shape-of .ensures)
+    ∙ rw (k .box-bytes .ensures) (shape-bytes (within k) (boxBytes d) (box-bytes-most d))
+
 returns-4 : tie.Need-returns-4
 returns-4 c =
     let g = c .before .before .before .before in
     let w = g .before .before .before in
     let x = w .before .before .before .before .before .before .args in
-    let bytes = rw (w .before .box-bytes .ensures) at (c .before .before .before .whole .ensures) in
+    let bytes = total (c .before .before .before) in
     c .refused4 .ensures
     ∙ ap refusedWriting (c .before .new2 .ensures)
     ∙ by-room (x .description) (x .tiles) (x .fanout) (x .leaves .now) (x .room) (passed (w .before)) (whole w)
@@ -74,7 +86,7 @@ returns-5 c =
     let g = c .before .before .before in
     let w = g .before .before .before in
     let x = w .before .before .before .before .before .before .args in
-    let bytes = rw (w .before .box-bytes .ensures) at (c .before .before .whole .ensures) in
+    let bytes = total (c .before .before) in
     c .length-told .ensures
     ∙ ap lengthTold bytes
     ∙ by-none (x .description) (x .tiles) (x .fanout) (x .leaves .now) (x .room) (passed (w .before)) (whole w)
@@ -95,7 +107,7 @@ check-spec =
     (λ c κs. whole c)
     (λ c κs. search needs)
     returns-3
-    (λ c κs. let k = c .before .before .before .before in (within k, few k))
+    (λ c κs. search needs)
     (λ c κs. search needs)
     (λ c κs. search needs)
     returns-4

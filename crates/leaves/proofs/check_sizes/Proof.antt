@@ -18,8 +18,8 @@ returns c =
     let w = c .before .before .before in
     let x = w .before .before .before .before .args in
     join-next (c .or2 .ensures)
-    (join-next (c .before .before .or .ensures) (w .before .check .ensures) (rw (w .before .before .before .outside .ensures) at (w .when .ensures)))
-    (rw (w .before .before .outside2 .ensures) at (c .before .when2 .ensures))
+    (join-next (c .before .before .or .ensures) (w .before .check .ensures) (rw (w .before .before .before .tiles-outside .ensures) at (w .when .ensures)))
+    (rw (w .before .before .fanout-outside .ensures) at (c .before .when2 .ensures))
     ∙ joined-first (descriptionRefusal (x .description)) (check (outside leastTiles mostTiles (x .tiles)) refusals.tiles 0 ∷ [])
     (outside leastFanout mostFanout (x .fanout)) refusals.fanout 0 (omega arith)
 
@@ -27,8 +27,6 @@ pub check-sizes-spec : {M : Type 1} → statement M
 check-sizes-spec =
     tie.close
     (tie.spec
-    (λ c. search needs)
-    (λ c. search needs)
     (λ c κs. search needs)
     (λ c κs. search needs)
     (λ c κs. search needs)

@@ -16,7 +16,7 @@ use Rattle.answers.proofs.Checks.{past-left, stop-left, none-left}
 use Rattle.description.specs.declared.Description.{Description}
 use Rattle.description.specs.Description.{sidesOf, boxBytes}
 use Rattle.boxes.specs.Boxes.{rangesRefusal}
-use Rattle.boxes.proofs.Moving.{moved, moved-clear, moved-some, ranges-moved, fault-before}
+use Rattle.boxes.proofs.Moving.{ranges-told}
 use Rattle.leaves.specs.Code.Sound.{boxIn, leavesRefusal}
 use Rattle.leaves.proofs.first_fault.Statement.{statement}
 use Rattle.leaves.proofs.first_fault.Tie as tie
@@ -50,46 +50,37 @@ there c =
     )
 
 -- what is told of it, moved to its place
-told : (c : tie.After-check-ranges Inv-loop μ-loop)
-    → (let x = c .before .before .before .before .before .before .before .args in
-    let l = c .before .before .before .loop in
-    moved (l .at) (c .check-ranges .result) ≡ leafAt (x .description) (x .leaves .now) (l .k))
-told c =
-    let x = c .before .before .before .before .before .before .before .args in
-    let l = c .before .before .before .loop in
-    let size : l .at + c .before .before .before .before .box-bytes .result - l .at ≡ boxBytes (x .description) = omega (arith, c .before .before .before .before .box-bytes .ensures) in
-    let e = rw size at (c .check-ranges .ensures) in
-    rw (e, ← (ranges-moved (x .description .kinds) (sidesOf (x .description .dimensions)) (take (boxBytes (x .description)) (drop (l .at) (x .leaves .now))) (l .at)), l .inv .1)
-
-add-new : tie.Need-add-new Inv-loop μ-loop
+told : (c : tie.After-moved Inv-loop μ-loop)
+    → (let x = c .before .before .before .before .before .before .before .before .args in
+    let l = c .before .before .before .before .loop in
+    c .moved .result ≡ leafAt (x .description) (x .leaves .now) (l .k))
 unfolding boxBytes
-add-new c =
-    let t = c .before .before .before in
+told c =
+    let t = c .before in
     let x = t .before .before .before .before .before .before .before .args in
-    let most = fault-before (x .description .kinds) (sidesOf (x .description .dimensions))
-    (take (t .before .before .before .loop .at + t .before .before .before .before .box-bytes .result - t .before .before .before .loop .at) (drop (t .before .before .before .loop .at) (x .leaves .now))) in
-    record { fits = omega (arith, ap (λ (r : Refusal). r .place) (t .check-ranges .ensures), most, there (t .before .before), t .before .before .before .before .box-bytes .ensures) }
+    let d = x .description in
+    let l = t .before .before .before .loop in
+    let b = t .before .before .before .before .box-bytes .ensures in
+    let size : l .at + t .before .before .before .before .box-bytes .result - l .at ≡ boxBytes d = omega (arith, b) in
+    let e = rw size at (t .check-ranges .ensures) in
+    rw (← (l .inv .1))
+    (ranges-told (d .kinds) (sidesOf (d .dimensions)) _ (l .at) e (c .moved .ensures) (omega (arith, there (t .before .before), b)))
 
 returns : tie.Need-returns Inv-loop μ-loop
 returns c =
-    let t = c .before .before .before .before in
-    let i = t .before .before in
+    let m = c .before .before in
+    let i = m .before .before .before in
     let l = i .before .loop in
-    let some = c .before .before .if1 .taken in
-    sym (l .inv .2
-    ∙ stop-left _ (l .k) _ (c .new .result) (i .loop-test .taken)
-    (c .new .ensures ∙ sym (moved-some (l .at) (t .check-ranges .result) some) ∙ told t)
-    (λ e. some (sym (ap (λ (r : Refusal). r .number) (c .new .ensures)) ∙ e)))
+    sym (l .inv .2 ∙ stop-left _ (l .k) _ _ (i .loop-test .taken) (told m) (c .if1 .taken))
 
 loop-again : tie.Need-loop-again Inv-loop μ-loop
 loop-again c =
-    let t = c .before .before in
-    let i = t .before .before in
-    let l = i .before .loop in
-    let e = moved-clear (l .at) (t .check-ranges .result) (c .if1 .left) in (
+    let m = c .before .before in
+    let i = m .before .before .before in
+    let l = i .before .loop in (
       omega (arith, i .loop-test),
-      omega (arith, l .inv .1, t .before .before .before .before .box-bytes .ensures),
-      l .inv .2 ∙ past-left _ (l .k) _ _ (i .loop-test .taken) (told t) (rw e (c .if1 .left)),
+      omega (arith, l .inv .1, i .before .before .box-bytes .ensures),
+      l .inv .2 ∙ past-left _ (l .k) _ _ (i .loop-test .taken) (told m) (c .if1 .left),
     )
 
 returns-2 : tie.Need-returns-2 Inv-loop μ-loop
@@ -110,7 +101,6 @@ first-fault-spec =
     (λ c. search needs)
     (λ c. there c)
     (λ c κs. search needs)
-    add-new
     (λ c κs. search needs)
     returns
     (λ c. search needs)

@@ -22,7 +22,7 @@ use Rattle.lists.proofs.check_list.Tie as tie
 
 returns : tie.Need-returns
 unfolding listRefusalBy
-returns c = c .new .ensures ∙ sym (stop-check _ _ _ _ (sym (c .before .before .outside .ensures) ∙ c .before .if1 .taken) (omega arith))
+returns c = c .new .ensures ∙ sym (stop-check _ _ _ _ (sym (c .before .before .tiles-outside .ensures) ∙ c .before .if1 .taken) (omega arith))
 
 fits : (width n : ℕ) → Fits w32 width → outside leastTiles mostTiles n ≡ false → 8 + width * n < 2 ^ 64
 fits width n h e =
@@ -33,19 +33,19 @@ fits width n h e =
 mul-total : tie.Need-mul-total
 mul-total c =
     let a = c .before .before .before in
-    omega (arith, fits (a .args .width) (a .args .tiles) (a .fits .width) (sym (c .before .outside .ensures) ∙ c .if1 .left))
+    omega (arith, fits (a .args .width) (a .args .tiles) (a .fits .width) (sym (c .before .tiles-outside .ensures) ∙ c .if1 .left))
 
 add-total : tie.Need-add-total
 add-total c =
     let a = c .before .before .before in
-    omega (arith, fits (a .args .width) (a .args .tiles) (a .fits .width) (sym (c .before .outside .ensures) ∙ c .if1 .left))
+    omega (arith, fits (a .args .width) (a .args .tiles) (a .fits .width) (sym (c .before .tiles-outside .ensures) ∙ c .if1 .left))
 
 returns-2 : tie.Need-returns-2
 returns-2 c =
     let bytes = c .before .before in
     let few = bytes .before .before in
     let read = few .before in
-    let inside = sym (read .before .before .outside .ensures) ∙ read .before .if1 .left in
+    let inside = sym (read .before .before .tiles-outside .ensures) ∙ read .before .if1 .left in
     let a = read .before .before .before .before .args in
     let differs : bytes .before .when2 .result ≡ check (not (eqb (little (a .body .now) 0 8) (a .tiles))) count 0
     = rw (read .u64-at .ensures) at (bytes .before .when2 .ensures) in

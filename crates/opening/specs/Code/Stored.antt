@@ -4,14 +4,14 @@
 use Prim.Native.Nat.{ℕ, _+_, _-_, _*_, _≤_, _<_, min}
 use mathlib.Core.Path.{_≡_}
 use mathlib.Core.List.{List}
-use lib.ListN.{length, getD, take, drop}
+use lib.ListN.{length, take, drop}
 use Rattle.answers.specs.Refusals as refusals
 use Rattle.answers.specs.Checks.{each}
 use Rattle.answers.specs.declared.Refusal.{Refusal}
 use Rattle.description.specs.declared.Description.{Description}
 use Rattle.description.specs.Description.{sidesOf, boxBytes}
 use Rattle.boxes.specs.Boxes.{boxRefusal}
-use Rattle.tree.specs.Shape.{up}
+use Rattle.tree.specs.Shape.{up, placeIn, countIn}
 
 module _ (d : Description) (body : List ℕ) where
   -- the bytes of a box at a place
@@ -47,16 +47,10 @@ pub record Rows (d : Description) (body : List ℕ) (b f start parents next coun
 
 -- A level by its distance j from the leaves, and the one below it, as a table of places and counts has them.
 module _ (d : Description) (body table : List ℕ) where
-  abbrev placeIn : ℕ → ℕ
-  placeIn j = getD table (2 * j) 0
-
-  abbrev countIn : ℕ → ℕ
-  countIn j = getD table (2 * j + 1) 0
-
   abbrev pub tableRefusal : ℕ → ℕ → Refusal
-  tableRefusal f j = rowsRefusal d body f (placeIn j) (countIn j) (placeIn (j - 1)) (countIn (j - 1))
+  tableRefusal f j =
+      rowsRefusal d body f (placeIn table j) (countIn table j) (placeIn table (j - 1)) (countIn table (j - 1))
 
   pub record TwoLevels (b f j : ℕ) : Type 0 where
     pub some : 0 < j
-    pub near : j < 25
-    pub rows : Rows d body b f (placeIn j) (countIn j) (placeIn (j - 1)) (countIn (j - 1))
+    pub rows : Rows d body b f (placeIn table j) (countIn table j) (placeIn table (j - 1)) (countIn table (j - 1))

@@ -35,11 +35,11 @@ held-length : (c : tie.Start) → length (c .args .parts .held) ≡ 64
 held-length c = sym (length-map (c .args .parts .held) (λ v. v)) ∙ c .good .0 .1 .1 .1 .1 .1 .1 .1 .0 .1 .0 .1
 
 -- as many as are lent
-lent : (c : tie.After-least) → length (take (c .least .result) (c .before .before .before .before .before .before .before .args .bytes .now)) ≡ c .least .result
-lent c = rw length-take (omega (arith, c .least .ensures))
+lent : (c : tie.After-lesser) → length (take (c .lesser .result) (c .before .before .before .before .before .before .before .args .bytes .now)) ≡ c .lesser .result
+lent c = rw length-take (omega (arith, c .lesser .ensures))
 
 -- what holds once they are taken
-after : (c : tie.After-take) → (let x = c .before .before .before .before .before .before .before .before .before .before .before .before .args in let all = c .before .before .before .before .before .least .result in
+after : (c : tie.After-take) → (let x = c .before .before .before .before .before .before .before .before .before .before .before .before .args in let all = c .before .before .before .before .before .lesser .result in
     (d : Description) (F : ℕ) (footer : List ℕ) (stated : ℕ) (got : List ℕ) → Took d F footer stated got (x .parts) (x .work .now)
     → (body : List ℕ) → Begins (got ++ x .bytes .now) body
     → (length got + all ≤ stated) × (all < length (x .bytes .now) → length got + all ≡ stated) × (8 ≤ stated)
@@ -51,10 +51,10 @@ after c d F footer stated got took body begins =
     let l = c .before .before .before .before .before in
     let h = took body (begins-got got (x .bytes .now) body begins) in
     let g = h .going (c .before .before .before .before .before .before .before .if1 .left) in
-    let fits : length got + l .least .result ≤ stated = omega (arith, l .least .ensures, k .room-left .ensures, g .here, g .said, g .within) in
-    let first = read-first body (length got) (x .bytes .now) (begins-next got (x .bytes .now) body begins) (l .least .result) (omega (arith, l .least .ensures)) in (
+    let fits : length got + l .lesser .result ≤ stated = omega (arith, l .lesser .ensures, k .room-left .ensures, g .here, g .said, g .within) in
+    let first = read-first body (length got) (x .bytes .now) (begins-next got (x .bytes .now) body begins) (l .lesser .result) (omega (arith, l .lesser .ensures)) in (
       fits,
-      (λ more. omega (arith, l .least .ensures, k .room-left .ensures, g .here, g .said, g .within)),
+      (λ more. omega (arith, l .lesser .ensures, k .room-left .ensures, g .here, g .said, g .within)),
       g .enough,
       rw (lent l) at (c .take .ensures .1 d F footer stated body (length got) h first (omega (arith, lent l, fits))),
     )
@@ -66,7 +66,7 @@ returns-2 c =
     let l = c .before .before .before .before .before .before .before .before .before .before .before .before .before in
     let x = c .before .before .before .before .before .before .before .before .before .before .before .before .before .before .before .before .before .before .before .before .args in
     let e = both _ _ (sym (c .before .before .before .both .ensures) ∙ c .before .before .if2 .taken) in
-    let more : l .least .result < length (x .bytes .now) = ltb-true _ _ (e .0) in
+    let more : l .lesser .result < length (x .bytes .now) = ltb-true _ _ (e .0) in
     record {
       room = t .take .ensures .0 .to-work;
       took = λ d F footer stated got took body begins.
@@ -91,10 +91,10 @@ returns-3 c =
     record {
       room = t .take .ensures .0 .to-work;
       took = λ d F footer stated got took body begins.
-          rw (c .with-cursor2 .ensures) (go t e d F footer stated got took body begins (decLe (suc (l .least .result)) (length bytes)));
+          rw (c .with-cursor2 .ensures) (go t e d F footer stated got took body begins (decLe (suc (l .lesser .result)) (length bytes)));
     }
   where
-    go : (t : tie.After-take) → (let x = t .before .before .before .before .before .before .before .before .before .before .before .before .args in let all = t .before .before .before .before .before .least .result in
+    go : (t : tie.After-take) → (let x = t .before .before .before .before .before .before .before .before .before .before .before .before .args in let all = t .before .before .before .before .before .lesser .result in
         (ltb all (length (x .bytes .now)) && eqb (t .take .result .number) 0) ≡ false
         → (d : Description) (F : ℕ) (footer : List ℕ) (stated : ℕ) (got : List ℕ) → Took d F footer stated got (x .parts) (x .work .now)
         → (body : List ℕ) → Begins (got ++ x .bytes .now) body → Dec (suc all ≤ length (x .bytes .now))
@@ -104,7 +104,7 @@ returns-3 c =
         record { decided = a .3 .decided; going = λ z. absurd (eqb-false _ 0 (rw (lt-ltb _ _ more) at e) z) }
     go t e d F footer stated got took body begins (no none) =
         let a = after t d F footer stated got took body begins in
-        let all : t .before .before .before .before .before .least .result ≡ length (t .before .before .before .before .before .before .before .before .before .before .before .before .args .bytes .now) = omega (arith, t .before .before .before .before .before .least .ensures) in
+        let all : t .before .before .before .before .before .lesser .result ≡ length (t .before .before .before .before .before .before .before .before .before .before .before .before .args .bytes .now) = omega (arith, t .before .before .before .before .before .lesser .ensures) in
         rw length-append (rw all at (a .3))
 
 pub block-spec : {M : Type 1} → statement M

@@ -1,12 +1,13 @@
 -- `parts::check_boxes` meets its contract: the fault that was found before, or what is told of the root or of the rows.
 -- Assumes nothing.
 use mathlib.Core.Path.{_≡_, refl, sym, ap, _∙_}
-use Prim.Native.Nat.{ℕ, _+_, _-_, _*_, _≤_, _<_}
+use Prim.Native.Nat.{ℕ, _+_, _-_, _*_, _^_, _≤_, _<_}
 use native.Mathlib.Omega.{arith}
 use lib.ListN.{length, take, length-take, length-map}
 use borrow.Author.Needs.{needs}
 use borrow.Author.Tests.{eq-eqb, ne-eqb}
 use Rattle.answers.specs.Refusals as refusals
+use Rattle.answers.proofs.Moved.{moved-code}
 use Rattle.answers.proofs.Checks.{go-on, halt}
 use Rattle.description.specs.Description.{boxBytes, sidesOf}
 use Rattle.opening.proofs.Rows.{row-before}
@@ -24,19 +25,16 @@ domain-length c = sym (length-map (c .args .parts .domain) (λ v. v)) ∙ c .goo
 box-fits : (c : tie.Start) → c .args .box-bytes ≤ length (c .args .parts .domain)
 box-fits c = omega (arith, c .pre .width, box-bytes-most (c .args .parts .description), domain-length c)
 
-placed-requires : tie.Need-placed-requires
-placed-requires c κs =
-    let s = c .before .before .before .before .before .before .before .before .before .before .before in
-    let x = s .args in
-    let told = rw (← (c .check-row .ensures)) at (row-before (x .parts .description .kinds) (sidesOf (x .parts .description .dimensions))
-    (take (x .box-bytes) (x .parts .domain)) refusals.outsideDomain (x .bytes .now)) in
-    omega (arith, told, c .before .before .before .before .if2 .taken, s .pre .range .room, c .before .before .before .before .before .struct-known2 .given)
-
 returns-2 : tie.Need-returns-2
 returns-2 c = λ _.
     let s = c .before .before .before .before .before .before .before .before .before .before .before .before in
     let none = c .before .before .before .before .before .before .before .before .if1 .left in
-    c .placed .ensures
+    let x = s .args in
+    let k = c .before in
+    let told = rw (← (k .check-row .ensures)) at (row-before (x .parts .description .kinds) (sidesOf (x .parts .description .dimensions))
+    (take (x .box-bytes) (x .parts .domain)) refusals.outsideDomain (x .bytes .now)) in
+    moved-code 16 (k .check-row .result) (c .moved .ensures)
+    (omega (arith, told, k .before .before .before .before .if2 .taken, s .pre .range .room, k .before .before .before .before .before .struct-known2 .given))
     ∙ sym (go-on (refusals.refusal _ _) _ none ∙ rw (eq-eqb _ 16 (c .before .before .before .before .before .if2 .taken), c .before .check-row .ensures, s .pre .width))
 
 returns-3 : tie.Need-returns-3
@@ -45,15 +43,16 @@ returns-3 c = λ some. absurd (omega (arith, c .before .if3 .taken))
 check-rows-requires : tie.Need-check-rows-requires
 check-rows-requires c κs = (c .before .before .before .before .before .before .before .before .before .pre, omega (arith, c .if3 .left))
 
-placed-requires-2 : tie.Need-placed-requires-2
-placed-requires-2 c κs =
+rows-fit : (c : tie.After-check-rows) → c .before .before .before .before .before .before .before .before .before .before .args .cursor .done + c .check-rows .result .place < 2 ^ 64
+rows-fit c =
     let s = c .before .before .before .before .before .before .before .before .before .before in
-    omega (arith, c .check-rows .ensures .1, s .pre .range .room, c .before .before .struct-known3 .given)
+    omega (arith, c .check-rows .ensures .1, s .pre .range .room, c .before .before .struct-known3 .given, s .good)
 
 returns-4 : tie.Need-returns-4
 returns-4 c = λ _.
     let none = c .before .before .before .before .before .before .before .if1 .left in
-    c .placed2 .ensures
+    let k = c .before in
+    moved-code (k .before .before .before .before .before .before .before .before .before .before .args .cursor .done) (k .check-rows .result) (c .moved2 .ensures) (rows-fit k)
     ∙ sym (go-on (refusals.refusal _ _) _ none ∙ rw (ne-eqb _ 16 (c .before .before .before .before .if2 .left), c .before .check-rows .ensures .0))
 
 pub check-boxes-spec : {M : Type 1} → statement M
@@ -65,10 +64,10 @@ check-boxes-spec =
     (λ c. box-fits (c .before .before .before .before .before .before .before .before .before))
     (λ c. rw length-take (omega (arith, box-fits (c .before .before .before .before .before .before .before .before .before .before))))
     (λ c κs. search needs)
-    placed-requires
+    (λ c κs. search needs)
     returns-2
     (λ c κs. search needs)
     returns-3
     check-rows-requires
-    placed-requires-2
+    (λ c κs. search needs)
     returns-4)

@@ -1,10 +1,9 @@
--- `parts::check_front` meets its contract: it goes through the definition's checks in their order, and the bytes of the
--- whole fit. Assumes nothing.
+-- `parts::check_front` meets its contract: it goes through the definition's checks in their order. Assumes nothing.
 use mathlib.Core.Path.{_≡_, sym, ap, _∙_}
 use mathlib.Core.Bool.{not, _&&_}
 use mathlib.Core.List.{[], _∷_}
 use Prim.Native.Nat.{ℕ, _+_, _-_, _*_, _≤_}
-use native.Mathlib.Nat.{mul-le-mul, mul-le-mul-left}
+use native.Mathlib.Nat.{mul-le-mul}
 use native.Mathlib.Omega.{arith}
 use lib.Dec.{ltb, leb, eqb}
 use borrow.Author.Needs.{needs}
@@ -13,21 +12,20 @@ use Rattle.answers.specs.Checks.{check, otherwise}
 use Rattle.answers.proofs.Checks.{join-next, joined-first}
 use Rattle.description.specs.Limits.{mostTiles, leastFanout, mostFanout, outside}
 use Rattle.tree.specs.Shape.{mostBoxBytes, shapeOf}
-use Rattle.rtree.proofs.Passed.{small}
+use Rattle.rtree.proofs.Passed.{small as shape-small}
 use Rattle.parts_state.specs.Parts.{frontShown}
 use Rattle.parts.proofs.check_front.Statement.{statement}
 use Rattle.parts.proofs.check_front.Tie as tie
 
--- the numbers of a shape are small
-few : (c : tie.After-shape-of) → (8 * c .shape-of .result .levels ≤ 200)
-    × (c .before .args .box-bytes * c .shape-of .result .boxes ≤ mostBoxBytes * (25 * mostTiles))
-few c =
-    let s = small (c .before .args .fanout) (c .before .args .tiles) (c .before .args .box-bytes) in
-    rw (c .shape-of .ensures) (omega (arith, s .levels-few), mul-le-mul (c .before .pre) (s .boxes-few))
-
-less : (c : tie.After-inner-boxes) → c .before .before .args .box-bytes * c .inner-boxes .result
-    ≤ c .before .before .args .box-bytes * c .before .shape-of .result .boxes
-less c = mul-le-mul-left (c .before .before .args .box-bytes) (omega (arith, c .inner-boxes .ensures))
+-- the bytes of the inner boxes fit
+small : (c : tie.After-inner-boxes)
+    → c .before .before .args .box-bytes * c .inner-boxes .result ≤ mostBoxBytes * (25 * mostTiles)
+small c =
+    let s = c .before in
+    let x = s .before .args in
+    let few = rw (← (s .shape-of .ensures)) at (shape-small (x .fanout) (x .tiles) (x .box-bytes) .boxes-few) in
+    let fewer : c .inner-boxes .result ≤ 25 * mostTiles = omega (arith, c .inner-boxes .ensures, few) in
+    mul-le-mul (s .before .pre) fewer
 
 -- the checks, joined as code joins them
 joined : (stated room have f l right whole inner : ℕ)
@@ -54,7 +52,7 @@ returns c =
     let b2 = b3 .before in
     let b1 = b2 .before .before in
     let o = b1 .before in
-    let i = o .before .before .before in
+    let i = o .before in
     let s = i .before in
     let x = s .before .args in
     let inner = x .box-bytes * (s .shape-of .result .boxes - x .tiles) in
@@ -63,7 +61,7 @@ returns c =
     let when5 = rw no-room at (c .before .when5 .ensures) in
     let when4 = rw (b3 .both3 .ensures) at (c .before .before .before .when4 .ensures) in
     let when3 = rw (b2 .both2 .ensures) at (c .before .before .before .before .before .when3 .ensures) in
-    let when2 = rw (b1 .both .ensures, o .outside .ensures) at (c .before .before .before .before .before .before .before .when2 .ensures) in
+    let when2 = rw (b1 .both .ensures, o .fanout-outside .ensures) at (c .before .before .before .before .before .before .before .when2 .ensures) in
     rw (← (s .shape-of .ensures))
     (join-next (c .or4 .ensures)
     (join-next (c .before .before .or3 .ensures)
@@ -73,7 +71,7 @@ returns c =
     when4)
     when5
     ∙ joined (x .stated) (x .room) (x .have) (x .fanout) (x .levels) (s .shape-of .result .levels)
-    (8 + 8 * s .shape-of .result .levels + x .box-bytes * s .shape-of .result .boxes)
+    (s .shape-of .result .bytes)
     (x .box-bytes * (s .shape-of .result .boxes - x .tiles)))
 
 pub check-front-spec : {M : Type 1} → statement M
@@ -82,17 +80,11 @@ check-front-spec =
     (tie.spec
     (λ c κs. search needs)
     (λ c κs. search needs)
-    (λ c. omega (arith, few (c .before .before)))
-    (λ c. omega (arith, few (c .before .before)))
-    (λ c. omega (arith, few (c .before .before .before)))
-    (λ c. omega (arith, few (c .before .before .before)))
-    (λ c. search needs)
-    (λ c. search needs)
     (λ c κs. search needs)
     (λ c κs. search needs)
     (λ c κs. search needs)
     (λ c κs. search needs)
-    (λ c. let i = c .before .before .before .before .before .before .before in omega (arith, few (i .before), less i))
+    (λ c. omega (arith, small (c .before .before .before .before .before)))
     (λ c κs. search needs)
     (λ c κs. search needs)
     (λ c κs. search needs)

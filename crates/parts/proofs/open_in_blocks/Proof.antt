@@ -33,11 +33,11 @@ loop-holds c =
     )
 
 -- how many bytes the block has
-more : (c : tie.After-least Inv-loop μ-loop) → (let l = c .before .before .loop in let x = c .before .before .before .before .before .before .before .before .args in
-    (0 < c .least .result) × (l .at + c .least .result ≤ length (x .body .now)))
+more : (c : tie.After-lesser Inv-loop μ-loop) → (let l = c .before .before .loop in let x = c .before .before .before .before .before .before .before .before .args in
+    (0 < c .lesser .result) × (l .at + c .lesser .result ≤ length (x .body .now)))
 more c =
     let l = c .before .before .loop in
-    (omega (arith, c .least .ensures, l .inv .1, c .before .loop-test .taken), omega (arith, c .least .ensures, l .inv .0))
+    (omega (arith, c .lesser .ensures, l .inv .1, c .before .loop-test .taken), omega (arith, c .lesser .ensures, l .inv .0))
 
 loop-again : tie.Need-loop-again Inv-loop μ-loop
 loop-again c =
@@ -45,7 +45,7 @@ loop-again c =
     let k = b .before .before .before in
     let l = k .before .before .loop in
     let x = k .before .before .before .before .before .before .before .before .args in
-    let m = k .least .result in
+    let m = k .lesser .result in
     let size : l .at + m - l .at ≡ m = omega arith in (
       more k .1,
       l .inv .1,

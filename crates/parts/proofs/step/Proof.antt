@@ -132,9 +132,9 @@ box-item c =
     (is, omega (arith, is, facts i .1), some)
 
 -- how many boxes are taken
-taken : (c : tie.After-least) → (let x = c .before .before .before .before .before .before .before .before .before .before .before .before .before .before .before .before .before .before .before .args in let from = c .before .before .before .before .before .before .before .whole-of .result .now in
-    let whole = c .least .result * x .box-bytes in
-    (whole ≤ length from) × (0 < c .least .result) × (c .least .result ≤ x .cursor .count - x .cursor .index)
+taken : (c : tie.After-lesser) → (let x = c .before .before .before .before .before .before .before .before .before .before .before .before .before .before .before .before .before .before .before .args in let from = c .before .before .before .before .before .before .before .whole-of .result .now in
+    let whole = c .lesser .result * x .box-bytes in
+    (whole ≤ length from) × (0 < c .lesser .result) × (c .lesser .result ≤ x .cursor .count - x .cursor .index)
     × (length (take whole from) ≡ whole) × (x .box-bytes ≤ whole))
 taken c =
     let x = c .before .before .before .before .before .before .before .before .before .before .before .before .before .before .before .before .before .before .before .args in
@@ -142,12 +142,12 @@ taken c =
     let from = length (c .before .before .before .before .before .before .before .whole-of .result .now) in
     let b = x .box-bytes in
     let own = box-item (c .before .before .before .before) in
-    let l = rw k at (c .least .ensures) in
+    let l = rw k at (c .lesser .ensures) in
     let left = rw k at (c .before .before .if3 .left) in
-    let up-to : c .least .result ≤ from / b = omega (arith, l) in
-    let inside : c .least .result * b ≤ from = omega (arith, mul-le-mul-right b up-to, div-mul-le-self from b) in
+    let up-to : c .lesser .result ≤ from / b = omega (arith, l) in
+    let inside : c .lesser .result * b ≤ from = omega (arith, mul-le-mul-right b up-to, div-mul-le-self from b) in
     let one : 1 ≤ from / b = le-div-iff-mul-le {k = b} {x = 1} {y = from} (own .1) .1 (omega (arith, own .0, size (c .before .before .before .before .before .before .before))) in
-    let some : 0 < c .least .result = omega (arith, l, one, left) in (
+    let some : 0 < c .lesser .result = omega (arith, l, one, left) in (
       inside,
       some,
       omega (arith, l),
@@ -177,7 +177,7 @@ returns-4 c =
     let k = c .before .before .before .before .before .before .before .before .before .before .before .keep2 .ensures in
     let w = c .before .before .before .before .before .before .before .before .before .before .before .before .whole-of in
     let b = c .before .before in
-    let m = c .before .before .before .before .before .least .result * c .before .before .before .before .before .before .before .before .before .before .before .before .before .before .before .before .before .before .before .before .before .before .before .before .args .box-bytes in
+    let m = c .before .before .before .before .before .lesser .result * c .before .before .before .before .before .before .before .before .before .before .before .before .before .before .before .before .before .before .before .before .before .before .before .before .args .box-bytes in
     let o = taken (c .before .before .before .before .before) in
     let own = box-item (c .before .before .before .before .before .before .before .before .before) in
     let s = c .before .before .before .before .before .before .before .before .before .before .before .before .before .before .before .before .before .before .before .before .before .before .before .before in

@@ -34,9 +34,9 @@ loop-holds c =
     )
 
 -- how many boxes are taken next
-turn : (c : tie.After-least Inv-loop μ-loop) → (let l = c .before .before .loop in
+turn : (c : tie.After-lesser Inv-loop μ-loop) → (let l = c .before .before .loop in
     let x = start (c .before .before) .args in
-    let more = c .least .result in
+    let more = c .lesser .result in
     (0 < more) × (l .i + more ≤ x .boxes) × (l .i * x .box-bytes + more * x .box-bytes ≤ length (x .bytes .now))
     × (length (x .bytes .now) ≤ mostTiles * mostBoxBytes))
 turn c =
@@ -44,16 +44,16 @@ turn c =
     let s = start (c .before .before) in
     let x = s .args in
     let run = s .pre .0 in
-    let inside : l .i + c .least .result ≤ x .boxes = omega (arith, c .least .ensures, l .inv .0) in
+    let inside : l .i + c .lesser .result ≤ x .boxes = omega (arith, c .lesser .ensures, l .inv .0) in
     let few : x .boxes ≤ mostTiles = omega (arith, most-boxes run) in (
-      omega (arith, c .least .ensures, l .inv .1, c .before .loop-test .taken),
+      omega (arith, c .lesser .ensures, l .inv .1, c .before .loop-test .taken),
       inside,
       omega (arith, mul-le-mul-right (x .box-bytes) inside, run .size),
       omega (arith, run .size, mul-le-mul few (most-bytes run)),
     )
 
 -- the level has more boxes than those before them
-left : (c : tie.After-least Inv-loop μ-loop) → (let l = c .before .before .loop in
+left : (c : tie.After-lesser Inv-loop μ-loop) → (let l = c .before .before .loop in
     let u = start (c .before .before) .args .cursor in u .index + l .i < u .count)
 left c =
     let run = start (c .before .before) .pre .0 in
@@ -67,10 +67,10 @@ take-run-requires c κs =
     let x = s .args in
     let t = turn k in
     let from = l .i * x .box-bytes in
-    let to = from + k .least .result * x .box-bytes in
+    let to = from + k .lesser .result * x .box-bytes in
     let before : length (take from (x .bytes .now)) ≡ from = rw length-take (omega (arith, t .2)) in
-    let size : length (take (to - from) (drop from (x .bytes .now))) ≡ k .least .result * x .box-bytes = rw (length-take, length-drop) (omega (arith, t .2)) in
-    (next-run (s .pre .0) (l .i) (k .least .result) (rw before at (l .inv .2 .next (left k))) size (t .2) (t .1), t .0)
+    let size : length (take (to - from) (drop from (x .bytes .now))) ≡ k .lesser .result * x .box-bytes = rw (length-take, length-drop) (omega (arith, t .2)) in
+    (next-run (s .pre .0) (l .i) (k .lesser .result) (rw before at (l .inv .2 .next (left k))) size (t .2) (t .1), t .0)
 
 loop-again : tie.Need-loop-again Inv-loop μ-loop
 loop-again c =
@@ -80,13 +80,13 @@ loop-again c =
     let x = start (k .before .before) .args in
     let t = turn k in
     let from = l .i * x .box-bytes in
-    let size = k .least .result * x .box-bytes in
+    let size = k .lesser .result * x .box-bytes in
     let slice : from + size - from ≡ size = omega arith in
-    let all : (l .i + k .least .result) * x .box-bytes ≡ from + size = omega arith in (
+    let all : (l .i + k .lesser .result) * x .box-bytes ≡ from + size = omega arith in (
       t .1,
       l .inv .1,
       rw all
-          (more-taken (x .parts) (x .cursor) (x .work .now) (x .bytes .now) from size (l .i) (k .least .result) (t .2) (l .inv .2)
+          (more-taken (x .parts) (x .cursor) (x .work .now) (x .bytes .now) from size (l .i) (k .lesser .result) (t .2) (l .inv .2)
           (rw slice at (r .take-run .ensures)) (left k)),
     )
 

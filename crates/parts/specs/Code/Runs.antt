@@ -6,7 +6,7 @@ use mathlib.Core.List.{List}
 use lib.Dec.{eqb}
 use lib.ListN.{take, drop}
 use Rattle.answers.specs.Refusals as refusals
-use Rattle.answers.specs.Checks.{each}
+use Rattle.answers.specs.Checks.{each, moved}
 use Rattle.answers.specs.declared.Refusal.{Refusal}
 use Rattle.description.specs.declared.Description.{Description}
 use Rattle.description.specs.Description.{sidesOf, boxBytes}
@@ -23,15 +23,11 @@ module _ (d : Description) (f parents index : ℕ) (bytes work : List ℕ) where
       boxRefusal (d .kinds) (sidesOf (d .dimensions)) (take (boxBytes d) (drop (i * boxBytes d) bytes))
       (take (boxBytes d) (drop (parents + (index + i) / f * boxBytes d) work)) refusals.outsideParent (i * boxBytes d)
 
--- a refusal that is placed from a start on
-abbrev pub placed : ℕ → Refusal → Refusal
-placed start r = cond (eqb (r .number) 0) r (refusals.refusal (r .number) (start + r .place))
-
 -- so many boxes as code checks them: the root, which stands at 16, or a run of children
 abbrev pub runCheck : Parts → Cursor → List ℕ → List ℕ → ℕ → Refusal
 runCheck s c work bytes m =
     let d = s .description in
     cond (eqb (c .done) 16)
-    (placed 16
+    (moved 16
     (rowRefusal (d .kinds) (sidesOf (d .dimensions)) bytes (take (boxBytes d) (s .domain)) refusals.outsideDomain))
-    (placed (c .done) (each (childCheck d (c .fanout) (c .parents) (c .index) bytes work) 0 m))
+    (moved (c .done) (each (childCheck d (c .fanout) (c .parents) (c .index) bytes work) 0 m))

@@ -5,7 +5,7 @@ use Prim.Native.Nat.{ℕ, _+_, _-_, _*_, _≤_, _<_, min}
 use mathlib.Core.Path.{_≡_}
 use mathlib.Core.List.{List}
 use lib.ListN.{length, take, drop}
-use lib.Seq.{paste}
+use lib.Seq.{sets}
 use Rattle.answers.specs.Refusals as refusals
 use Rattle.description.specs.declared.Description.{Description}
 use Rattle.description.specs.Description.{boxBytes}
@@ -45,12 +45,9 @@ pub record Gathered (held : List ℕ) (kept : ℕ) (bytes : List ℕ) (item have
   pub room : length after ≡ length held
   pub none : have ≡ 0 → (kept ≡ 0) × (item ≤ length bytes)
   pub some : 0 < have → have ≡ kept + min (item - kept) (length bytes)
-  pub pasted : after ≡ paste held kept (take (have - kept) bytes) (length (take (have - kept) bytes))
+  pub pasted : after ≡ sets held kept (take (have - kept) bytes)
 
--- the bytes of the whole body, and of its inner boxes, as code works them out of the shape
-abbrev pub wholeIn : ℕ → ℕ → ℕ → ℕ
-wholeIn f n b = 8 + 8 * shapeOf f n b .levels + b * shapeOf f n b .boxes
-
+-- the bytes of the inner boxes, as code works them out of the shape
 abbrev pub innerIn : ℕ → ℕ → ℕ → ℕ
 innerIn f n b = b * (shapeOf f n b .boxes - n)
 
@@ -108,7 +105,7 @@ pub record SameRoom (held work after-held after : List ℕ) : Type 0 where
 pub record Stored (work : List ℕ) (level to : ℕ) (bytes after : List ℕ) : Type 0 where
   pub room : length after ≡ length work
   pub none : level ≡ 0 → after ≡ work
-  pub some : 0 < level → to + length bytes ≤ length work → after ≡ paste work to bytes (length bytes)
+  pub some : 0 < level → to + length bytes ≤ length work → after ≡ sets work to bytes
 
 -- Fewer than eight bytes came, and no more come.
 abbrev pub Ends : Parts → ℕ → Opened → Type 0

@@ -28,7 +28,7 @@ returns c =
     let k = c .before .before .before .before in
     let x = k .before .before .args in
     join-next (c .or2 .ensures)
-    (join-next (c .before .before .or .ensures) (k .check .ensures) (rw (k .before .outside .ensures) at (c .before .before .before .when .ensures)))
+    (join-next (c .before .before .or .ensures) (k .check .ensures) (rw (k .before .tiles-outside .ensures) at (c .before .before .before .when .ensures)))
     (c .before .check-window .ensures)
     ∙ joined _ _ _ (window-none (x .description) (x .window))
 

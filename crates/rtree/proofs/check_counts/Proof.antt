@@ -23,29 +23,31 @@ abbrev μ-loop : tie.MeasureT-loop
 
 -- what is said of the level at hand
 said : (c : tie.After-when Inv-loop μ-loop)
-    → (let x = c .before .before .before .before .before .before .before .args in
-    let i = c .before .before .before .before .before .loop .i in
+    → (let x = c .before .before .before .before .before .before .before .before .before .args in
+    let i = c .before .before .before .before .before .before .before .loop .i in
     c .when .result ≡ tableCountRefusal (x .body .now) (x .table .now) (x .levels - 1 - i))
-said c = c .when .ensures ∙ rw (c .before .u64-at .ensures)
+said c = c .when .ensures ∙ rw (c .before .u64-at .ensures, c .before .before .count-in .ensures, c .before .before .before .before .place-in .ensures)
 
 loop-holds : tie.Need-loop-holds Inv-loop μ-loop
 unfolding tableRefusal
 loop-holds c = (omega arith, sym (over-start otherwise none _ _))
 
 sub-place : tie.Need-sub-place Inv-loop μ-loop
-sub-place c = c .before .before .before .before .pre .1 _ (omega arith)
+sub-place c =
+    let s = c .before .before .before .before .before in
+    omega (arith, c .place-in .ensures, s .pre (s .args .levels - 1 - c .before .before .before .loop .i) (omega arith))
 
 returns : tie.Need-returns Inv-loop μ-loop
 returns c =
     let w = c .before .before in
-    let t = w .before .before .before .before in
+    let t = w .before .before .before .before .before .before in
     let l = t .before in
     sym (stop-left _ (l .loop .i) _ _ (t .loop-test .taken) (said w) (c .if1 .taken)) ∙ l .loop .inv .1
 
 loop-again : tie.Need-loop-again Inv-loop μ-loop
 loop-again c =
     let w = c .before .before in
-    let t = w .before .before .before .before in
+    let t = w .before .before .before .before .before .before in
     let l = t .before in
     (omega arith, sym (past-left _ (l .loop .i) _ _ (t .loop-test .taken) (said w) (c .if1 .left)) ∙ l .loop .inv .1)
 
@@ -61,13 +63,9 @@ check-counts-spec =
     loop-holds
     (λ c. search needs)
     (λ c. search needs)
-    (λ c. search needs)
-    (λ c. search needs)
-    (λ c. search needs)
+    (λ c κs. search needs)
     sub-place
-    (λ c. search needs)
-    (λ c. search needs)
-    (λ c. search needs)
+    (λ c κs. search needs)
     (λ c κs. search needs)
     (λ c κs. search needs)
     returns

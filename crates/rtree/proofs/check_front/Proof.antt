@@ -32,17 +32,15 @@ returns c =
     let x = w .before .before .before .args in
     join-next (c .or2 .ensures)
     (join-next (c .before .before .or .ensures)
-    (rw (w .before .before .outside .ensures) at (w .when .ensures))
+    (rw (w .before .before .tiles-outside .ensures) at (w .when .ensures))
     (c .before .before .before .when2 .ensures))
-    (rw (w .before .outside2 .ensures) at (c .before .when3 .ensures))
+    (rw (w .before .fanout-outside .ensures) at (c .before .when3 .ensures))
     ∙ joined (x .tiles) (x .bytes) (x .fanout)
 
 pub check-front-spec : {M : Type 1} → statement M
 check-front-spec =
     tie.close
     (tie.spec
-    (λ c. search needs)
-    (λ c. search needs)
     (λ c κs. search needs)
     (λ c κs. search needs)
     (λ c κs. search needs)

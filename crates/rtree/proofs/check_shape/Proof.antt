@@ -8,7 +8,7 @@ use Rattle.description.specs.Description.{boxBytes}
 use Rattle.tree.specs.Shape.{shapeOf}
 use Rattle.rtree.specs.Body.{fanoutOf}
 use Rattle.rtree.specs.Code.Shaped.{shapedRefusal}
-use Rattle.rtree.proofs.Passed.{Small, box-bytes-most, small, shaped}
+use Rattle.rtree.proofs.Passed.{Small, small, shaped}
 use Rattle.rtree.proofs.check_shape.Statement.{statement}
 use Rattle.rtree.proofs.check_shape.Tie as tie
 
@@ -21,17 +21,8 @@ shape c = rw (c .before .u32-at .ensures, c .before .before .box-bytes .ensures)
 fits : (c : tie.After-shape-of) → Small (c .shape-of .result)
 fits c = rw (shape c) (small _ _ _)
 
-check-size-requires : tie.Need-check-size-requires
-check-size-requires c κs =
-    let s = c .before .before in
-    let b = s .before .before .box-bytes .ensures in
-    let f = fits s in
-    (f .levels-few, (f .boxes-few, rw b (box-bytes-most _)))
-
 check-counts-requires : tie.Need-check-counts-requires
-check-counts-requires c κs =
-    let f = fits (c .before .before .before .before .before) in
-    (f .levels-few, f .counted)
+check-counts-requires c κs = fits (c .before .before .before .before .before) .counted
 
 told : (c : tie.After-or2)
     → (let x = c .before .before .before .before .before .before .before .before .before .before .before .args in
@@ -44,7 +35,7 @@ told c =
     (join-next (c .or2 .ensures)
     (join-next (o .or .ensures)
     (rw (s .before .u32-at .ensures) at (o .before .before .check-front .ensures))
-    (rw (shape s, s .before .before .box-bytes .ensures) at (o .before .check-size .ensures)))
+    (rw (shape s) at (o .before .check-size .ensures)))
     (rw (shape s) at (c .before .check-counts .ensures)))
 
 returns : tie.Need-returns
@@ -66,7 +57,7 @@ check-shape-spec =
     (λ c. search needs)
     (λ c κs. search needs)
     (λ c κs. search needs)
-    check-size-requires
+    (λ c κs. search needs)
     (λ c κs. search needs)
     check-counts-requires
     (λ c κs. search needs)

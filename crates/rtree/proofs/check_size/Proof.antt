@@ -1,10 +1,8 @@
--- `rtree::check_size` meets its contract: the two checks are the definition's, and all boxes' bytes fit.
--- Assumes nothing.
+-- `rtree::check_size` meets its contract: the two checks are the definition's. Assumes nothing.
 use mathlib.Core.Path.{_≡_, _∙_}
 use mathlib.Core.Bool.{not}
 use mathlib.Core.List.{[]}
-use Prim.Native.Nat.{ℕ, _+_, _*_, _≤_}
-use native.Mathlib.Nat.{mul-le-mul}
+use Prim.Native.Nat.{ℕ}
 use native.Mathlib.Omega.{arith}
 use lib.Dec.{eqb}
 use lib.ListN.{length}
@@ -12,14 +10,9 @@ use borrow.Author.Needs.{needs}
 use Rattle.answers.specs.Refusals as refusals
 use Rattle.answers.specs.Checks.{check, otherwise}
 use Rattle.answers.proofs.Checks.{join-next, joined-first}
-use Rattle.description.specs.Limits.{mostTiles}
-use Rattle.tree.specs.Shape.{mostBoxBytes}
 use Rattle.rtree.specs.Body.{levelsOf, sizeRefusal}
 use Rattle.rtree.proofs.check_size.Statement.{statement}
 use Rattle.rtree.proofs.check_size.Tie as tie
-
-small : (c : tie.Start) → c .args .box-bytes * c .args .boxes ≤ mostBoxBytes * (25 * mostTiles)
-small c = mul-le-mul (c .pre .1 .1) (c .pre .1 .0)
 
 -- the checks, joined as code joins them
 joined : (l whole size stored : ℕ)
@@ -35,7 +28,7 @@ returns c =
     let w = c .before .before in
     let x = w .before .before .before .args in
     join-next (c .or .ensures) (rw (w .before .u32-at .ensures) at (w .when .ensures)) (c .before .when2 .ensures)
-    ∙ joined (x .levels) (8 + 8 * x .levels + x .box-bytes * x .boxes) (length (x .body .now)) (levelsOf (x .body .now))
+    ∙ joined (x .levels) (x .whole) (length (x .body .now)) (levelsOf (x .body .now))
 
 pub check-size-spec : {M : Type 1} → statement M
 check-size-spec =
@@ -43,10 +36,6 @@ check-size-spec =
     (tie.spec
     (λ c κs. search needs)
     (λ c. search needs)
-    (λ c. search needs)
-    (λ c. search needs)
-    (λ c. omega (arith, small (c .before .before)))
-    (λ c. omega (arith, small (c .before .before)))
     (λ c κs. search needs)
     (λ c κs. search needs)
     (λ c κs. search needs)

@@ -1,11 +1,10 @@
 -- What the check of a body's shape tells the code of opening and of the query. Nothing here is promised to a caller.
 -- Assumes nothing.
-use Prim.Native.Nat.{ℕ, _+_, _-_, _*_}
+use Prim.Native.Nat.{ℕ, _-_}
 use mathlib.Core.Bool.{not}
 use mathlib.Core.Path.{_≡_}
 use mathlib.Core.List.{List}
 use lib.Dec.{eqb}
-use lib.ListN.{getD}
 use Rattle.answers.specs.Refusals as refusals
 use Rattle.answers.specs.Checks.{check, otherwise, each}
 use Rattle.answers.specs.declared.Refusal.{Refusal}
@@ -13,7 +12,7 @@ use Rattle.order.specs.Little.{little}
 use Rattle.description.specs.declared.Description.{Description}
 use Rattle.description.specs.Description.{boxBytes}
 use Rattle.description.specs.Limits.{leastTiles, mostTiles, outside}
-use Rattle.tree.specs.Shape.{shapeOf}
+use Rattle.tree.specs.Shape.{shapeOf, placeIn, countIn}
 use Rattle.rtree.specs.declared.Shaped.{Shaped}
 use Rattle.rtree.specs.Body.{fanoutOf, shapeRefusal}
 
@@ -28,8 +27,8 @@ shapedRefusal d n body = otherwise (tilesRefusal n) (shapeRefusal n (boxBytes d)
 -- one level's count, at distance j, as a table of places and counts says it
 abbrev pub tableCountRefusal : List ℕ → List ℕ → ℕ → Refusal
 tableCountRefusal body table j =
-    let place = getD table (2 * j) 0 - 8 in
-    check (not (eqb (little body place 8) (getD table (2 * j + 1) 0))) refusals.levels place
+    let place = placeIn table j - 8 in
+    check (not (eqb (little body place 8) (countIn table j))) refusals.levels place
 
 -- each level's count in order, from the root's: l levels
 unfoldable pub tableRefusal : List ℕ → List ℕ → ℕ → Refusal

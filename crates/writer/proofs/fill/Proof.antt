@@ -5,18 +5,18 @@ use Prim.Native.Nat.{ℕ, suc, _+_, _-_, _*_, _≤_, _<_}
 use mathlib.Core.Path.{_≡_, ap, _∙_}
 use mathlib.Core.List.{List}
 use native.Mathlib.Omega.{arith}
-use lib.ListN.{length, getD}
+use lib.ListN.{length}
 use lib.Seq.{sets, length-sets}
 use borrow.Author.Needs.{needs}
 use Rattle.order.specs.Little.{bytesOf}
 use Rattle.description.specs.Description.{boxBytes}
-use Rattle.tree.specs.Shape.{boxes, height, levels, levelStart}
+use Rattle.tree.specs.Shape.{boxes, height, levels, levelStart, placeIn, countIn}
 use Rattle.tree.proofs.Limits.{levels-most}
 use Rattle.tree.proofs.Places.{leaves-end, level-inside}
 use Rattle.tree.proofs.Table.{shape-levels, start-at, count-at}
 use Rattle.rtree.proofs.Passed.{box-bytes-most}
 use Rattle.writer.specs.Code.Rows.{Filling}
-use Rattle.writer.proofs.Stores.{number-stored}
+use Rattle.order.proofs.Stores.{number-stored, bytes-stored}
 use Rattle.writer.proofs.Levels.{start-some, Down, begun, levels-there, level-numbers, above, ended}
 use Rattle.writer.proofs.fill.Statement.{statement}
 use Rattle.writer.proofs.fill.Tie as tie
@@ -40,7 +40,7 @@ module _ (s : tie.After-shape-of Inv-loop μ-loop) where
       rw (s .shape-of .ensures, s .before .box-bytes .ensures) (shape-levels (z .sizes) (boxBytes d) (box-bytes-most d))
 
   start-is : (j : ℕ) → j ≤ height (s .before .before .before .before .args .fanout) (s .before .before .before .before .args .tiles)
-      → getD (s .shape-of .result .table) (2 * j) 0
+      → placeIn (s .shape-of .result .table) j
       ≡ levelStart (s .before .before .before .before .args .fanout) (s .before .before .before .before .args .tiles) (boxBytes (s .before .before .before .before .args .description)) j
   start-is j h =
       let z = s .before .before .before .before .pre in
@@ -48,73 +48,71 @@ module _ (s : tie.After-shape-of Inv-loop μ-loop) where
       rw (s .shape-of .ensures, s .before .box-bytes .ensures) (start-at (z .sizes) (boxBytes d) (box-bytes-most d) j h)
 
   count-is : (j : ℕ) → j ≤ height (s .before .before .before .before .args .fanout) (s .before .before .before .before .args .tiles)
-      → getD (s .shape-of .result .table) (2 * j + 1) 0 ≡ boxes (s .before .before .before .before .args .fanout) (s .before .before .before .before .args .tiles) j
+      → countIn (s .shape-of .result .table) j ≡ boxes (s .before .before .before .before .args .fanout) (s .before .before .before .before .args .tiles) j
   count-is j h =
       let z = s .before .before .before .before .pre in
       let d = s .before .before .before .before .args .description in
       rw (s .shape-of .ensures, s .before .box-bytes .ensures) (count-at (z .sizes) (boxBytes d) (box-bytes-most d) j h)
 
-  leaves-start : getD (s .shape-of .result .table) 0 0
+  leaves-start : placeIn (s .shape-of .result .table) 0
       ≡ levelStart (s .before .before .before .before .args .fanout) (s .before .before .before .before .args .tiles) (boxBytes (s .before .before .before .before .args .description)) 0
   leaves-start = start-is 0 (omega arith)
 
-  leaves-there : getD (s .shape-of .result .table) 0 0 + length (s .before .before .before .before .args .leaves .now) ≤ length (s .before .before .before .before .args .out .now)
+  leaves-there : placeIn (s .shape-of .result .table) 0 + length (s .before .before .before .before .args .leaves .now) ≤ length (s .before .before .before .before .args .out .now)
   leaves-there =
       let x = s .before .before .before .before .args in
       let z = s .before .before .before .before .pre in
       omega (arith, leaves-start, z .whole, z .room, leaves-end (x .fanout) (x .tiles) (boxBytes (x .description)))
 
-  counted : 8 ≤ getD (s .shape-of .result .table) 0 0
+  counted : 8 ≤ placeIn (s .shape-of .result .table) 0
   counted =
       let x = s .before .before .before .before .args in
       omega (arith, leaves-start, start-some (x .fanout) (x .tiles) (boxBytes (x .description)) 0)
 
 -- the leaves' count, and the leaves
 count-put : (t : tie.After-put-u64 Inv-loop μ-loop)
-    → (let x = t .before .before .before .before .before .before .before .args in
-    t .put-u64 .last .0 ≡ sets (x .out .now) (getD (t .before .before .before .shape-of .result .table) 0 0 - 8) (bytesOf 8 (x .tiles)))
+    → (let x = t .before .before .before .before .before .before .before .before .before .args in
+    t .put-u64 .last .0 ≡ sets (x .out .now) (placeIn (t .before .before .before .before .before .shape-of .result .table) 0 - 8) (bytesOf 8 (x .tiles)))
 count-put t =
-    let s = t .before .before .before in
-    number-stored _ _ _ 8 _ (omega (arith, counted s, leaves-there s)) (t .put-u64 .ensures)
-
-copy-requires : tie.Need-copy-requires Inv-loop μ-loop
-copy-requires c κs =
-    let t = c .before .before .before in
-    let e : length (t .put-u64 .last .0) ≡ length (t .before .before .before .before .before .before .before .args .out .now) = ap length (count-put t) ∙ simp length-sets in
-    omega (arith, leaves-there (t .before .before .before))
+    let s = t .before .before .before .before .before in
+    number-stored _ _ _ 8 _ (omega (arith, counted s, leaves-there s)) (rw (t .before .before .place-in .ensures) at (t .put-u64 .ensures))
 
 leaves-put : (c : tie.After-copy Inv-loop μ-loop)
-    → (let x = c .before .before .before .before .before .before .before .before .before .before .before .args in Down (x .description) (x .tiles) (x .fanout) (x .leaves .now) (x .out .now) 0 (c .copy .last .0))
+    → (let x = c .before .before .before .before .before .before .before .before .before .before .before .before .before .args in Down (x .description) (x .tiles) (x .fanout) (x .leaves .now) (x .out .now) 0 (c .copy .last .0))
 leaves-put c =
     let t = c .before .before .before .before in
-    let s = t .before .before .before in
+    let s = t .before .before .before .before .before in
     let x = s .before .before .before .before .args in
+    let e : length (t .put-u64 .last .0) ≡ length (x .out .now) = ap length (count-put t) ∙ simp length-sets in
+    let copied : c .copy .last .0 ≡ sets (t .put-u64 .last .0) (placeIn (s .shape-of .result .table) 0) (x .leaves .now) =
+    bytes-stored (t .put-u64 .last .0) (c .copy .last .0) (placeIn (s .shape-of .result .table) 0) (x .leaves .now)
+    (omega (arith, e, leaves-there s)) (rw (t .before .before .place-in .ensures) at (c .copy .ensures)) in
     begun (x .description) (x .tiles) (x .fanout) (x .leaves .now) (x .out .now) (s .before .before .before .before .pre) (t .put-u64 .last .0) (c .copy .last .0)
-    (rw (leaves-start s) at (count-put t)) (rw (leaves-start s) at (c .copy .ensures))
+    (rw (leaves-start s) at (count-put t)) (rw (leaves-start s) at copied)
 
 loop-holds : tie.Need-loop-holds Inv-loop μ-loop
 unfolding levels
-loop-holds c = (omega arith, omega (arith, all-levels (c .before .before .before .before .before .before .before .before .before)), λ first z down. down)
+loop-holds c = (omega arith, omega (arith, all-levels (c .before .before .before .before .before .before .before .before .before .before .before)), λ first z down. down)
 
 -- as far as the loop has come
 come : (a : tie.At-loop Inv-loop μ-loop)
-    → (let x = a .before .before .before .before .before .before .before .before .before .before .before .before .before .before .args in
+    → (let x = a .before .before .before .before .before .before .before .before .before .before .before .before .before .before .before .before .args in
     Down (x .description) (x .tiles) (x .fanout) (x .leaves .now) (x .out .now) (a .loop .j - 1) (a .loop .out))
-come a = a .loop .inv .2 (a .before .before .before .before .before .before .before .before .before .before .before .before .before .before .args .out .now) (a .before .before .before .before .before .before .before .before .before .before .before .before .before .before .pre) (leaves-put (a .before .before .before))
+come a = a .loop .inv .2 (a .before .before .before .before .before .before .before .before .before .before .before .before .before .before .before .before .args .out .now) (a .before .before .before .before .before .before .before .before .before .before .before .before .before .before .before .before .pre) (leaves-put (a .before .before .before))
 
 below-root : (i : tie.In-loop Inv-loop μ-loop)
-    → (let x = i .before .before .before .before .before .before .before .before .before .before .before .before .before .before .before .args in
+    → (let x = i .before .before .before .before .before .before .before .before .before .before .before .before .before .before .before .before .before .args in
     (suc (i .before .loop .j - 1) ≡ i .before .loop .j) × (i .before .loop .j - 1 < height (x .fanout) (x .tiles)))
 unfolding levels
 below-root i =
     let l = i .before .loop in
-    let x = i .before .before .before .before .before .before .before .before .before .before .before .before .before .before .before .args in
-    (omega (arith, l .inv .0), omega (arith, l .inv .0, i .loop-test, all-levels (i .before .before .before .before .before .before .before .before .before .before .before)))
+    let x = i .before .before .before .before .before .before .before .before .before .before .before .before .before .before .before .before .before .args in
+    (omega (arith, l .inv .0), omega (arith, l .inv .0, i .loop-test, all-levels (i .before .before .before .before .before .before .before .before .before .before .before .before .before)))
 
 put-level-requires : tie.Need-put-level-requires Inv-loop μ-loop
 put-level-requires c κs =
     let i = c .before .before in
-    let s = i .before .before .before .before .before .before .before .before .before .before .before in
+    let s = i .before .before .before .before .before .before .before .before .before .before .before .before .before in
     let x = s .before .before .before .before .args in
     let j = i .before .loop .j in
     let r = below-root i in
@@ -122,7 +120,7 @@ put-level-requires c κs =
     (i .before .loop .out) (come (i .before)) (r .1) in
     let numbers = level-numbers (x .description) (x .tiles) (x .fanout) (x .leaves .now) (x .out .now) (s .before .before .before .before .pre) (j - 1)
     (i .before .loop .out) (come (i .before)) (r .1) in (
-      (omega (arith, i .before .loop .inv .0), omega (arith, i .loop-test, all-levels s, levels-most (s .before .before .before .before .pre .sizes))),
+      omega (arith, i .before .loop .inv .0),
       (
         rw (start-is s j (omega (arith, r)), count-is s j (omega (arith, r)), start-is s (j - 1) (omega (arith, r)), count-is s (j - 1) (omega (arith, r)))
             (rw (r .0) at there),
@@ -134,7 +132,7 @@ loop-again : tie.Need-loop-again Inv-loop μ-loop
 loop-again c =
     let t = c .before .before in
     let i = c .before .before .before .before .before in
-    let s = i .before .before .before .before .before .before .before .before .before .before .before in
+    let s = i .before .before .before .before .before .before .before .before .before .before .before .before .before in
     let x = s .before .before .before .before .args in
     let l = i .before .loop in
     let j = l .j in
@@ -149,16 +147,16 @@ loop-again c =
 -- the fanout and the level number
 long : (a : tie.At-loop Inv-loop μ-loop) → 8 ≤ length (a .loop .out)
 long a =
-    let x = a .before .before .before .before .before .before .before .before .before .before .before .before .before .before .args in
+    let x = a .before .before .before .before .before .before .before .before .before .before .before .before .before .before .before .before .args in
     let b = boxBytes (x .description) in
-    omega (arith, come a .long, a .before .before .before .before .before .before .before .before .before .before .before .before .before .before .pre .room, level-inside (x .fanout) (x .tiles) b 0 (omega arith), start-some (x .fanout) (x .tiles) b 0)
+    omega (arith, come a .long, a .before .before .before .before .before .before .before .before .before .before .before .before .before .before .before .before .pre .room, level-inside (x .fanout) (x .tiles) b 0 (omega arith), start-some (x .fanout) (x .tiles) b 0)
 
 fanout-put : (t : tie.After-put-u32 Inv-loop μ-loop)
-    → t .put-u32 .last .0 ≡ sets (t .before .before .before .loop .out) 0 (bytesOf 4 (t .before .before .before .before .before .before .before .before .before .before .before .before .before .before .before .before .before .args .fanout))
+    → t .put-u32 .last .0 ≡ sets (t .before .before .before .loop .out) 0 (bytesOf 4 (t .before .before .before .before .before .before .before .before .before .before .before .before .before .before .before .before .before .before .before .args .fanout))
 fanout-put t = number-stored _ _ 0 4 _ (omega (arith, long (t .before .before .before))) (t .put-u32 .ensures)
 
 levels-put : (t : tie.After-put-u322 Inv-loop μ-loop)
-    → t .put-u322 .last .0 ≡ sets (t .before .before .before .before .put-u32 .last .0) 4 (bytesOf 4 (t .before .before .before .before .before .before .before .before .before .before .before .before .before .before .before .before .before .shape-of .result .levels))
+    → t .put-u322 .last .0 ≡ sets (t .before .before .before .before .put-u32 .last .0) 4 (bytesOf 4 (t .before .before .before .before .before .before .before .before .before .before .before .before .before .before .before .before .before .before .before .shape-of .result .levels))
 levels-put t =
     let f = t .before .before .before .before in
     let e : length (f .put-u32 .last .0) ≡ length (f .before .before .before .loop .out) = ap length (fanout-put f) ∙ simp length-sets in
@@ -176,7 +174,7 @@ returns c =
     let t = c .before .before in
     let f = t .before .before .before .before in
     let a = f .before .before .before in
-    let s = a .before .before .before .before .before .before .before .before .before .before in
+    let s = a .before .before .before .before .before .before .before .before .before .before .before .before in
     let x = s .before .before .before .before .args in
     let root : a .loop .j - 1 ≡ height (x .fanout) (x .tiles) = omega (arith, a .loop .inv .0, a .loop .inv .1, f .before .before .loop-test, all-levels s) in
     ended (x .description) (x .tiles) (x .fanout) (x .leaves .now) (x .out .now) (s .before .before .before .before .pre) (a .loop .out) (f .put-u32 .last .0) (t .put-u322 .last .0)
@@ -191,17 +189,18 @@ fill-spec =
     (λ c κs. search needs)
     (λ c κs. search needs)
     (λ c. search needs)
-    (λ c. counted (c .before .before))
     (λ c κs. search needs)
-    copy-requires
+    (λ c. omega (arith, c .before .place-in .ensures, counted (c .before .before .before .before)))
+    (λ c κs. search needs)
+    (λ c κs. search needs)
     loop-holds
     put-level-requires
-    (λ c. record { fits = omega (arith, c .before .before .before .before .before .loop-test, all-levels (c .before .before .before .before .before .before .before .before .before .before .before .before .before .before .before .before), levels-most (c .before .before .before .before .before .before .before .before .before .before .before .before .before .before .before .before .before .before .before .before .pre .sizes)) })
+    (λ c. record { fits = omega (arith, c .before .before .before .before .before .loop-test, all-levels (c .before .before .before .before .before .before .before .before .before .before .before .before .before .before .before .before .before .before), levels-most (c .before .before .before .before .before .before .before .before .before .before .before .before .before .before .before .before .before .before .before .before .before .before .pre .sizes)) })
     (λ c. omega (arith, c .before .before .before .before .before .loop-test))
     loop-again
-    (λ c. record { fits = omega (arith, c .before .before .before .before .before .before .before .before .before .before .before .before .before .before .before .before .pre .sizes .widest) })
+    (λ c. record { fits = omega (arith, c .before .before .before .before .before .before .before .before .before .before .before .before .before .before .before .before .before .before .pre .sizes .widest) })
     (λ c κs. search needs)
-    (λ c. record { fits = omega (arith, all-levels (c .before .before .before .before .before .before .before .before .before .before .before .before .before .before .before .before), levels-most (c .before .before .before .before .before .before .before .before .before .before .before .before .before .before .before .before .before .before .before .before .pre .sizes)) })
+    (λ c. record { fits = omega (arith, all-levels (c .before .before .before .before .before .before .before .before .before .before .before .before .before .before .before .before .before .before), levels-most (c .before .before .before .before .before .before .before .before .before .before .before .before .before .before .before .before .before .before .before .before .before .before .pre .sizes)) })
     (λ c κs. search needs)
     same-length
     returns)

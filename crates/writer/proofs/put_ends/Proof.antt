@@ -12,7 +12,7 @@ use Rattle.description.specs.declared.Kind.{Kind}
 use Rattle.description.specs.Kinds.{endBytes, rangeBytes}
 use Rattle.description.proofs.Sides.{two-ends}
 use Rattle.ranges.proofs.Reading.{four-bytes, eight-bytes, fitted-same}
-use Rattle.writer.proofs.Stores.{part-stored}
+use Rattle.order.proofs.Stores.{part-stored}
 use Rattle.writer.proofs.put_ends.Statement.{statement}
 use Rattle.writer.proofs.put_ends.Tie as tie
 

@@ -1,7 +1,7 @@
 -- `writer::put_pair64` meets its contract: two numbers, one after the other, fill the buffer. Assumes nothing.
 use native.Mathlib.Omega.{arith}
 use borrow.Author.Needs.{needs}
-use Rattle.writer.proofs.Stores.{pair-stored}
+use Rattle.order.proofs.Stores.{pair-stored}
 use Rattle.writer.proofs.put_pair64.Statement.{statement}
 use Rattle.writer.proofs.put_pair64.Tie as tie
 

@@ -1,4 +1,4 @@
--- `writer::copy` meets its contract. The invariant: the buffer holds the first i bytes at their place. The measure is
+-- `order::store_all` meets its contract. The invariant: the buffer holds the first i bytes at their place. The measure is
 -- what is left of them.
 -- Assumes nothing.
 use Prim.Native.Nat.{ℕ, _+_, _-_, _≤_}
@@ -8,9 +8,9 @@ use native.Mathlib.Omega.{arith}
 use borrow.Author.Needs.{needs}
 use lib.ListN.{length, getD, take, set, length-set}
 use lib.Seq.{sets, take-all}
-use Rattle.writer.proofs.Stores.{copy-next}
-use Rattle.writer.proofs.copy.Statement.{statement}
-use Rattle.writer.proofs.copy.Tie as tie
+use Rattle.order.proofs.Stores.{copy-next}
+use Rattle.order.proofs.store_all.Statement.{statement}
+use Rattle.order.proofs.store_all.Tie as tie
 
 abbrev Inv-loop : tie.InvT-loop
 Inv-loop out₀ at bytes i₀ out i = (i ≤ length bytes) × (length out ≡ length out₀) × (out ≡ sets out₀ at (take i bytes))
@@ -34,8 +34,8 @@ returns c =
     let a = c .before .before .args in
     l .inv .2 ∙ ap (sets (a .out .now) (a .at)) (take-all (l .i) (a .bytes .now) (omega arith))
 
-pub copy-spec : {M : Type 1} → statement M
-copy-spec =
+pub store-all-spec : {M : Type 1} → statement M
+store-all-spec =
     tie.close
     (tie.spec
     Inv-loop

@@ -53,6 +53,11 @@ bytes-there s byte at (suc m) h =
     let first : (getD s at 0 + 256 * little s (at + 1) m) % 256 ≡ getD s at 0 = omega (arith, byte at) in
     let rest : (getD s at 0 + 256 * little s (at + 1) m) / 256 ≡ little s (at + 1) m = omega (arith, byte at) in
     rw (first, rest, bytes-there s byte (at + 1) m (omega arith), drop-cons s at 0 (omega arith), add-one at)
+
+-- bytes, stored where they fit
+pub bytes-stored : (l out : List ℕ) (at : ℕ) (vs : List ℕ) → at + length vs ≤ length l
+    → out ≡ cond (leb (at + length vs) (length l)) (sets l at vs) l → out ≡ sets l at vs
+bytes-stored l out at vs h e = e ∙ rw (le-leb (at + length vs) (length l) h)
 
 -- a number of m bytes, stored where it fits
 pub number-stored : (l out : List ℕ) (at m x : ℕ) → at + m ≤ length l
