@@ -75,6 +75,7 @@ def groups(ratios, pictured=False):
     made += [] if pictured else [("rust", f"opening, {kind}", of("rust", "open", kind)) for kind in KINDS]
     made += [("rust", "lists", [*of("rust", "offsets"), *of("rust", "var offsets"), *of("rust", "sizes")])]
     made += [] if pictured else [("rust", "a tree in blocks", of("rust", "parts"))]
+    made += [] if pictured else [("rust", "committed folders of a listing", of("rust", "committed", "ordinary"))]
     for peer in ("boost", "libspatialindex"):
         made += [(peer, f"query, {size} windows", of(peer, "query", size)) for size in ("small", "large")]
         made += [] if pictured else by_fanout[peer]
@@ -277,6 +278,11 @@ def page(tables, ratios):
         "## Lists",
         prose("Checking tile offsets, checking var offsets, and checking and adding up tile sizes."),
         pair_table({"list": "List", "n": "n"}, tables["list"], "entry"),
+        "## Committed folders",
+        prose("""A listing of folders and commits, half of its lines folders; and the worst that there is, folders whose names all have one
+            hash and differ only in their last bytes. Plain Rust keeps the records in the standard library's HashSet, whose hash can't be
+            met so."""),
+        pair_table({"names": "Names", "lines": "Lines", "bytes": "Bytes", "found": "Found"}, tables["committed"], "line"),
         "## A tree in parts",
         prose("""A tree that arrives in blocks of a given size, beside opening the whole and beside plain Rust that takes the same blocks, in
             five times the rounds."""),

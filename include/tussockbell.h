@@ -11,11 +11,11 @@
  * like any other number outside the limits, with TUSSOCKBELL_REFUSED_DESCRIPTION at place 0.
  *
  * An answer's first two places are the refusal's number, 0 for none, and its place in the bytes that were lent;
- * where the refusal is about a window's side, the place is its dimension, from 0. After a refusal every other number
- * is 0 unless a comment says otherwise. The answers of tussockbell_schema_name, tussockbell_extent,
- * tussockbell_var_extent and tussockbell_extent_at hold no refusal, and neither do the numbers that a function returns;
- * tussockbell_footer, tussockbell_offsets and tussockbell_var_offsets say whether a footer or a list is refused, and
- * why. */
+ * where the refusal is about a window's side, the place is its dimension, from 0, and where it is about a listing, the
+ * line, from 0. After a refusal every other number is 0 unless a comment says otherwise. The answers of
+ * tussockbell_schema_name, tussockbell_extent, tussockbell_var_extent and tussockbell_extent_at hold no refusal, and
+ * neither do the numbers that a function returns; tussockbell_footer, tussockbell_offsets and tussockbell_var_offsets
+ * say whether a footer or a list is refused, and why. */
 #ifndef TUSSOCKBELL_H
 #define TUSSOCKBELL_H
 
@@ -80,6 +80,8 @@ extern "C" {
 #define TUSSOCKBELL_REFUSED_WORK 21
 #define TUSSOCKBELL_REFUSED_RUNS 22
 #define TUSSOCKBELL_REFUSED_INFINITE 23
+#define TUSSOCKBELL_REFUSED_BAD_LINE 24
+#define TUSSOCKBELL_REFUSED_REPEATED 25
 #define TUSSOCKBELL_REFUSED_ROOM 26
 
 /* The text of a refusal number. */
@@ -134,6 +136,10 @@ static inline const char *tussockbell_refusal_text(uint64_t number)
         return "the answer run is not as long as the query run";
     case TUSSOCKBELL_REFUSED_INFINITE:
         return "a stored range end is infinite";
+    case TUSSOCKBELL_REFUSED_BAD_LINE:
+        return "a bad line of a listing";
+    case TUSSOCKBELL_REFUSED_REPEATED:
+        return "a record repeated whole";
     case TUSSOCKBELL_REFUSED_ROOM:
         return "the output buffer is too short";
     default:
@@ -227,6 +233,10 @@ static inline const char *tussockbell_refusal_text(uint64_t number)
 /* tussockbell_write_tree and tussockbell_tree_length */
 #define TUSSOCKBELL_WRITE_LENGTH 2
 #define TUSSOCKBELL_WRITE_PLACES 3
+
+/* tussockbell_committed. Its refusals are placed at a line, from 0. */
+#define TUSSOCKBELL_COMMITTED_FOUND 2
+#define TUSSOCKBELL_COMMITTED_PLACES 3
 
 /* Opens a footer of a metadata file of `file_size` bytes: every number of it. A dimension of the domain is its kind
  * number and the bit patterns of its ends, an end of 4 bytes in the low half. Dimensions past those that there are,
@@ -362,6 +372,19 @@ void tussockbell_write_tree(const uint8_t *kinds, size_t kinds_length, uint64_t 
 /* The length in bytes of a tree of so many tiles with this fanout: the room that tussockbell_write_tree asks for. */
 void tussockbell_tree_length(const uint8_t *kinds, size_t kinds_length, uint64_t fields, uint64_t capacity, uint64_t tiles,
                              uint64_t fanout, uint64_t *answer /* [TUSSOCKBELL_WRITE_PLACES] */);
+
+/* Which folders of a listing are committed, and no later than a reading time? A listing has one record a line, at most
+ * 1,024 of at most 255 bytes, each ended by one newline, which the last may lack: a kind, a tab and a name. Kinds are
+ * folder, wrt, con and ign; a name is __t1_t2_uuid_v, with times t1 <= t2 below 2^63 and a version v of 16 to 21. A
+ * folder counts if a wrt names it, or a con names it and no ign does. The answer has how many folders count whose t2 is
+ * at most `time`; the first places of `out` hold the numbers of their lines, from 0, in the order of the listing, as
+ * many as fit, and the others are untouched, all of them where the listing is refused. The first line at fault decides:
+ * TUSSOCKBELL_REFUSED_BAD_LINE for one that is no record, or is the 1,025th, and TUSSOCKBELL_REFUSED_REPEATED for one
+ * that an earlier line is the same as. The place is that line's number. Two accepted listings that differ only in
+ * folders that don't count find as many, and the same names in the same order. Time: linear in the listing, unless
+ * names are made to fall together, and then at most 1,024 times a line's; memory: 56 KB of stack. */
+void tussockbell_committed(const uint8_t *listing, size_t listing_length, uint64_t time, uint32_t *out, size_t out_length,
+                           uint64_t *answer /* [TUSSOCKBELL_COMMITTED_PLACES] */);
 
 /* The report of the contents of four files: description, footer, tree and offsets. Returns the length of its text,
  * which is at most TUSSOCKBELL_REPORT_MOST, and writes the text at the start of `out` if all of it fits; otherwise `out`

@@ -6,6 +6,7 @@
 //! KIND is how the kinds that are measured begin, ROUNDS and TILES, the most tiles, are for a quick look. Prints tab-parted tables, each with a header, and at the end
 //! `ratio`, case, and ours / theirs, where below 1 is faster.
 
+mod committed;
 mod data;
 mod peers;
 mod plain;
@@ -42,7 +43,7 @@ const TRIALS: usize = 3;
 /// A tree in parts comes in blocks of these sizes.
 const BLOCKS: [usize; 3] = [4_096, 65_536, 1_048_576];
 
-const TABLES: [(&str, &str); 10] = [
+const TABLES: [(&str, &str); 11] = [
     ("run", "rounds\tleast us\ttrials\tsmall windows\tlarge windows\tboost capacities\tlibspatialindex capacities"),
     (
         "query",
@@ -59,6 +60,7 @@ const TABLES: [(&str, &str); 10] = [
     ),
     ("bytes", "bytes\tours ns\tours ns/byte\trust ns\trust ns/byte"),
     ("parts", "kind\tD\tf\tn\tbytes\tblock\tparts ns\twhole ns\trust ns"),
+    ("committed", "names\tlines\tbytes\tfound\tours ns\tours ns/line\trust ns\trust ns/line"),
     ("batch", "kind\tD\tn\twindow\tfound\tlooked\tbatch ns\tsingle ns"),
 ];
 
@@ -441,6 +443,17 @@ impl Bench {
         }
     }
 
+    /// Listings of folders and commits.
+    fn committed_cases(&mut self) {
+        let listings = committed::Listing::all();
+        let taken = measure(listings.iter().flat_map(committed::Listing::runs).collect(), self.rounds);
+        for (listing, taken) in listings.iter().zip(taken.chunks(2)) {
+            let (names, lines, bytes, found) = (listing.names, listing.lines, listing.text.len(), listing.found);
+            self.rows.push(format!("committed\t{names}\t{lines}\t{bytes}\t{found}\t{}", beside(taken, lines as f64)));
+            self.ratio(format!("rust/committed/{names}/lines={lines}"), taken[0], taken[1]);
+        }
+    }
+
     /// Windows in batches beside single calls.
     fn batch_cases(&mut self) {
         for kinds in [vec![Kind::Int32], vec![Kind::Float64; 2], MIX.to_vec()] {
@@ -545,6 +558,7 @@ fn main() {
         }
     }
     bench.list_cases();
+    bench.committed_cases();
     bench.batch_cases();
     bench.growth();
     let most = arguments.get(2).map_or(usize::MAX, |tiles| tiles.parse().expect("a number of tiles"));

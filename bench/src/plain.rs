@@ -25,7 +25,7 @@ mod limits {
 }
 
 /// The refusal numbers.
-mod refusal {
+pub mod refusal {
     pub const DESCRIPTION: u64 = 1;
     pub const BYTES: u64 = 2;
     pub const VERSION: u64 = 3;
@@ -51,6 +51,8 @@ mod refusal {
     #[allow(dead_code)]
     pub const RUNS: u64 = 22;
     pub const INFINITE: u64 = 23;
+    pub const BAD_LINE: u64 = 24;
+    pub const REPEATED: u64 = 25;
     pub const ROOM: u64 = 26;
 }
 
@@ -61,7 +63,7 @@ pub struct Refused {
     pub which: u64,
 }
 
-fn refuse<T>(number: u64, place: usize) -> Result<T, Refused> {
+pub fn refuse<T>(number: u64, place: usize) -> Result<T, Refused> {
     Err(Refused { number, place: place as u64, which: 0 })
 }
 

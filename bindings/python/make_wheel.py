@@ -12,7 +12,7 @@ import zipfile
 HERE = pathlib.Path(__file__).resolve().parent
 CHECKOUT = HERE.parents[1]
 LIBRARY = CHECKOUT / "build/libtussockbell.so"
-FILES = ["__init__.py", "__main__.py", "_picture.py", "py.typed"]
+FILES = [*sorted(path.name for path in (HERE / "tussockbell").glob("*.py")), "py.typed"]
 
 
 def _version():

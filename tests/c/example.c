@@ -108,6 +108,22 @@ static void channels(uint8_t window_kind, uint64_t low, uint64_t high)
     show("channels", answer, TUSSOCKBELL_QUERY_PLACES);
 }
 
+/* Four folders: of the first a wrt is there, of the second nothing, of the third a con and an ign, of the fourth a con. */
+static void committed(const char *last, uint64_t time, size_t room)
+{
+    char listing[512];
+    snprintf(listing, sizeof listing,
+             "folder\t__1_2_a_21\nfolder\t__1_2_b_21\nfolder\t__3_3_c_21\nfolder\t__4_5_d_21\nwrt\t__1_2_a_21\n"
+             "con\t__3_3_c_21\nign\t__3_3_c_21\ncon\t__4_5_d_21%s",
+             last);
+    uint32_t out[3] = {9, 9, 9};
+    uint64_t answer[TUSSOCKBELL_COMMITTED_PLACES];
+    tussockbell_committed((const uint8_t *)listing, strlen(listing), time, out, room, answer);
+    show("committed", answer, TUSSOCKBELL_COMMITTED_PLACES);
+    printf("  %s; buffer %" PRIu32 " %" PRIu32 " %" PRIu32 "\n", tussockbell_refusal_text(answer[TUSSOCKBELL_NUMBER]), out[0],
+           out[1], out[2]);
+}
+
 int main(void)
 {
     uint8_t tree[80];
@@ -198,5 +214,13 @@ int main(void)
     show("var extent of the last", extent, TUSSOCKBELL_EXTENT_PLACES);
     tussockbell_sizes(3, list, list_length, sizes);
     show("sizes", sizes, TUSSOCKBELL_SIZES_PLACES);
+
+    committed("", 5, 3);
+    committed("\n", 4, 3);
+    committed("\n", UINT64_MAX, 1);
+    committed("\n\n", 5, 3);
+    committed("\nwrt\t__1_2_a_21", 5, 3);
+    tussockbell_committed(NULL, 0, 0, NULL, 0, sizes);
+    show("nothing committed", sizes, TUSSOCKBELL_COMMITTED_PLACES);
     return 0;
 }

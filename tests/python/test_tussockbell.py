@@ -675,6 +675,8 @@ class Refusals(unittest.TestCase):
             21: (in_parts, 0, 0),
             22: (lambda: tb.query_batch(ONE, 3, body, bytes(9)), 0, 0),
             23: (lambda: tb.read_footer(real, SAMPLE_SIZE, changed(foot, 20, infinite)), 20, 0),
+            24: (lambda: tb.committed(b"wrt\t__1_2_ab_16\n\n", 5), 1, 0),
+            25: (lambda: tb.committed(b"wrt\t__1_2_ab_16\nwrt\t__1_2_ab_16\n", 5), 1, 0),
             26: (lambda: tb.write_tree_into(ONE, 3, 2, body[56:], bytearray(79)), 0, 0),
         }
         self.assertEqual(list(cases), REFUSALS)
@@ -1182,6 +1184,11 @@ class Writing(unittest.TestCase):
         both += b"x"  # nothing is held any more
 
 
+def everything():
+    """All names of the package's modules."""
+    return {name: value for each in (tb, tb._committed) for name, value in vars(each).items()}
+
+
 class Header(unittest.TestCase):
     def setUp(self):
         self.header = (root / "include/tussockbell.h").read_text()
@@ -1194,8 +1201,8 @@ class Header(unittest.TestCase):
         self.assertEqual(sorted(tb._TEXTS), [0, *REFUSALS])
 
     def test_places(self):
-        constants = {name[1:]: value for name, value in vars(tb).items() if re.fullmatch("_[A-Z0-9_]+", name)}
-        own = ("LARGEST", "NO_KIND", "FIRST_ROOM", "NAME_AT")
+        constants = {name[1:]: value for name, value in everything().items() if re.fullmatch("_[A-Z0-9_]+", name)}
+        own = ("LARGEST", "NO_KIND", "FIRST_ROOM", "NAME_AT", "MOST_LINES")
         used = {name: value for name, value in constants.items() if isinstance(value, int) and name not in own}
         self.assertEqual(used, {name: self.defined.get(name) for name in used})
         self.assertGreater(len(used), 25)
@@ -1209,8 +1216,8 @@ class Header(unittest.TestCase):
         """Parameters and results as the header declares them."""
         types = {"uint64_t": ctypes.c_uint64, "size_t": ctypes.c_size_t, "void": None}
         declared = re.findall(r"^(\w+) tussockbell_(\w+)\(([^;{]*)\);", self.header, re.M)
-        self.assertEqual(len(declared), 21)
-        asked = {name: function for name, function in vars(tb).items() if name.startswith("_c_")}
+        self.assertEqual(len(declared), 22)
+        asked = {name: function for name, function in everything().items() if name.startswith("_c_")}
         # with a check that the binding has made before
         checked = {"schema_name", "cells", "total_cells", "extent", "var_extent"}
         self.assertEqual({name for _, name, _ in declared if "_c_" + name not in asked}, {*checked, "report"})

@@ -63,6 +63,8 @@ class Refusal:
     WORK = 21
     RUNS = 22
     INFINITE = 23
+    BAD_LINE = 24
+    REPEATED = 25
     ROOM = 26
 
 

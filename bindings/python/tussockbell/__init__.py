@@ -11,6 +11,7 @@
     for tile in hit.tiles:
         offset, extent = offsets[tile]
     body = tb.write_tree(d, tiles, fanout, leaf_boxes)
+    names = tb.committed(listing, time).names
 
 Every function asks the proved library, and raises `Refused`, with a number and a place, where the library refuses.
 docs/RULES.md has the rules. Numbers outside the limits are refused like any other bad input, however large or small they are.
@@ -68,8 +69,8 @@ from dataclasses import dataclass, field
 from typing import Any, NamedTuple, Optional, Protocol, SupportsFloat, SupportsIndex, Tuple, Union, cast, overload
 
 __all__ = [
-    "Description", "Footer", "Hit", "Offsets", "Opened", "Refused", "Tree", "TreeParts", "Window",
-    "box_test", "open_tree", "query", "query_batch", "read_footer", "tile_offsets", "tile_sizes", "tree_length",
+    "Committed", "Description", "Footer", "Hit", "Offsets", "Opened", "Refused", "Tree", "TreeParts", "Window",
+    "box_test", "committed", "open_tree", "query", "query_batch", "read_footer", "tile_offsets", "tile_sizes", "tree_length",
     "var_tile_offsets", "write_tree", "write_tree_into",
 ]
 
@@ -125,6 +126,8 @@ _TEXTS = {
     21: "the work buffer is too short",
     22: "the answer run is not as long as the query run",
     23: "a stored range end is infinite",
+    24: "a bad line of a listing",
+    25: "a record repeated whole",
     26: "the output buffer is too short",
 }
 
@@ -140,6 +143,7 @@ _OFFSETS_TILES, _OFFSETS_PLACES = 2, 3
 _EXTENT_OFFSET, _EXTENT_LENGTH, _EXTENT_PLACES = 0, 1, 2
 _SIZES_SUM, _SIZES_PLACES = 2, 3
 _WRITE_LENGTH, _WRITE_PLACES = 2, 3
+_COMMITTED_FOUND, _COMMITTED_PLACES = 2, 3
 
 # Places of the footer's answer, by the attribute that they become.
 _FOOTER_NUMBERS = {
@@ -206,6 +210,7 @@ _c_extent_at = _function("extent_at", [*_list, _u64, _pointer])
 _c_sizes = _function("sizes", [_u64, *_bytes, _pointer])
 _c_write_tree = _function("write_tree", [*_description, _u64, _u64, *_bytes, *_bytes, _pointer])
 _c_tree_length = _function("tree_length", [*_description, _u64, _u64, _pointer])
+_c_committed = _function("committed", [*_bytes, _u64, *_bytes, _pointer])
 
 _FooterAnswer = _u64 * _FOOTER_PLACES
 _OpenAnswer = _u64 * _OPEN_PLACES
@@ -217,6 +222,7 @@ _OffsetsAnswer = _u64 * _OFFSETS_PLACES
 _ExtentAnswer = _u64 * _EXTENT_PLACES
 _SizesAnswer = _u64 * _SIZES_PLACES
 _WriteAnswer = _u64 * _WRITE_PLACES
+_CommittedAnswer = _u64 * _COMMITTED_PLACES
 
 
 class Refused(Exception):
@@ -1164,3 +1170,9 @@ def write_tree_into(
             if _overlap(lent, _lent(room)):
                 raise ValueError("the leaves and the buffer to write to overlap")
             return _write(description, _limited(tiles), _limited(fanout), lent, room)
+
+
+# ---- listings
+
+# They stand on what is above, so this comes last.
+from tussockbell._committed import Committed, committed  # noqa: E402

@@ -11,6 +11,10 @@ were looked at; then tile, offset, extent and cells of each tile that it touches
 
 draws two dimensions of the tree and the tiles that the window touches.
 
+    python3 -m tussockbell committed LISTING --time 1700000000000
+
+prints the names of the committed folders of a listing that are no later than a time, one a line.
+
 FOOTER, TREE and OFFSETS are files of plain bytes, or pipes. What is wrong with them, with the numbers or with the
 window is asked of the library. A refusal is a line on standard error, with its number, its place and its words, and
 exit status 1. Any other failure is a line there and exit status 2: a file that can't be read or written, a character
@@ -28,7 +32,7 @@ import sys
 from typing import Any, BinaryIO, NoReturn, Optional, TextIO, Union
 
 import tussockbell as tb
-from tussockbell import _picture
+from tussockbell import _committed, _picture
 
 _REFUSED, _FAILED = 1, 2
 
@@ -104,7 +108,7 @@ def _arguments(words: list[str]) -> argparse.Namespace:
         allow_abbrev=False,
     )
     parser.add_argument("--version", action="version", version=f"tussockbell {tb.__version__}")
-    commands = parser.add_subparsers(dest="command", required=True, metavar="query|plot")
+    commands = parser.add_subparsers(dest="command", required=True, metavar="query|plot|committed")
     asked = _Parser(add_help=False, allow_abbrev=False)
     asked.add_argument("--kinds", required=True, help="a kind for each dimension, as int32,float64")
     asked.add_argument("--fields", required=True, type=int, metavar="N", help="entries in each per-field list")
@@ -125,6 +129,7 @@ def _arguments(words: list[str]) -> argparse.Namespace:
         command.add_argument("footer", metavar="FOOTER", help="the footer's bytes")
         command.add_argument("tree", metavar="TREE", help="the R-tree body's bytes")
     query.add_argument("offsets", metavar="OFFSETS", help="the bytes of the list of tile offsets")
+    _committed.add_command(commands)
     # A window may start with a minus, which would else count as an option's.
     joined: list[str] = []
     for word in words:
@@ -197,8 +202,11 @@ def _answer(words: Optional[list[str]]) -> None:
     """Answers a command on standard output, with all of it written."""
     try:
         asked: Any = _arguments(sys.argv[1:] if words is None else words)
-        description = tb.Description(asked.kinds.split(","), asked.fields, asked.capacity)
-        {"query": _query, "plot": _plot}[asked.command](asked, description)
+        if asked.command == "committed":
+            _committed.run(asked, _read, _write)
+        else:
+            description = tb.Description(asked.kinds.split(","), asked.fields, asked.capacity)
+            {"query": _query, "plot": _plot}[asked.command](asked, description)
     finally:
         if sys.stdout is not None:
             sys.stdout.flush()

@@ -8,8 +8,8 @@
 
 use crate::batch::Record;
 use crate::places::{
-    BATCH_PLACES, BOX_TEST_PLACES, EXTENT_PLACES, FOOTER_PLACES, NAME_PLACES, OFFSETS_PLACES, OPEN_PLACES,
-    PARTS_PLACES, QUERY_PLACES, RECORD_PLACES, SIZES_PLACES, WRITE_PLACES,
+    BATCH_PLACES, BOX_TEST_PLACES, COMMITTED_PLACES, EXTENT_PLACES, FOOTER_PLACES, NAME_PLACES, OFFSETS_PLACES,
+    OPEN_PLACES, PARTS_PLACES, QUERY_PLACES, RECORD_PLACES, SIZES_PLACES, WRITE_PLACES,
 };
 use crate::{Description, Kind};
 
@@ -300,4 +300,20 @@ pub(crate) fn report(description: &[u8], footer: &[u8], tree: &[u8], offsets: &[
             out.len(),
         )
     }
+}
+
+// ---- listings
+
+#[rustfmt::skip] // one line a row of parameters, as in the header
+extern "C" {
+    fn tussockbell_committed(listing: *const u8, listing_length: usize, time: u64, out: *mut u32, out_length: usize,
+                             answer: *mut u64);
+}
+
+pub(crate) fn committed(listing: &[u8], time: u64, out: &mut [u32]) -> [u64; COMMITTED_PLACES] {
+    let mut answer = [0; COMMITTED_PLACES];
+    let (text, length) = (listing.as_ptr(), listing.len());
+    // SAFETY: pointers and lengths of slices, an answer array of the header's places, and a buffer lent to nobody else.
+    unsafe { tussockbell_committed(text, length, time, out.as_mut_ptr(), out.len(), answer.as_mut_ptr()) };
+    answer
 }

@@ -11,6 +11,7 @@
 //! - [`box_test`] tests one box against a window, and tells how many dimensions it read.
 //! - [`tile_offsets`], [`var_tile_offsets`] and [`tile_sizes`] read a field's lists.
 //! - [`write_tree`] writes an R-tree from its leaf boxes, and [`tree_length`] tells how many bytes it has.
+//! - [`committed`] tells which folders of a listing are committed.
 //! - [`report`] writes the report of four files as text.
 //!
 //! Every function takes any input. Bad input is [`Refused`], with a number and a place, and a result buffer then holds
@@ -42,6 +43,7 @@
 #![deny(unsafe_op_in_unsafe_fn)]
 
 mod batch;
+mod committed;
 #[allow(unsafe_code)]
 mod ffi;
 mod footer;
@@ -54,6 +56,7 @@ mod tree;
 mod write;
 
 pub use batch::{query_batch, query_batch_bytes, Record};
+pub use committed::{committed, Committed};
 pub use footer::{read_footer, Footer};
 pub use lists::{tile_offsets, tile_sizes, var_tile_offsets, Extent, TileOffsets};
 pub use parts::{Opened, TreeParts};

@@ -69,4 +69,6 @@ places! {
     SIZES_PLACES = 3;
     WRITE_LENGTH = 2;
     WRITE_PLACES = 3;
+    COMMITTED_FOUND = 2;
+    COMMITTED_PLACES = 3;
 }

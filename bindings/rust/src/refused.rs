@@ -26,7 +26,8 @@ pub struct Refused {
     /// The refusal's number; the constants have them by name.
     pub number: u64,
     /// The position of the field's first byte in the lent bytes. Where a byte count or the length field is wrong it is
-    /// the number of lent bytes, in a window the dimension counted from 0, and where no bytes are to blame 0.
+    /// the number of lent bytes, in a window the dimension counted from 0, in a listing the line counted from 0, and
+    /// where no bytes are to blame 0.
     pub place: u64,
     /// Which of two byte strings the place counts in.
     pub which: Which,
@@ -76,6 +77,8 @@ refusals! {
     21 WORK "the work buffer is too short";
     22 RUNS "the answer run is not as long as the query run";
     23 INFINITE "a stored range end is infinite";
+    24 BAD_LINE "a bad line of a listing";
+    25 REPEATED "a record repeated whole";
     26 ROOM "the output buffer is too short";
 }
 

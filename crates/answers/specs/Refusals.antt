@@ -102,6 +102,14 @@ runs = 22
 abbrev pub infinite : ℕ
 infinite = 23
 
+-- a bad line of a listing
+abbrev pub badLine : ℕ
+badLine = 24
+
+-- a record repeated whole
+abbrev pub repeated : ℕ
+repeated = 25
+
 -- the output buffer is too short
 abbrev pub room : ℕ
 room = 26

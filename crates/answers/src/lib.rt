@@ -58,6 +58,10 @@ impl Refusal {
 
     pub const INFINITE: u64 = 23;
 
+    pub const BAD_LINE: u64 = 24;
+
+    pub const REPEATED: u64 = 25;
+
     pub const ROOM: u64 = 26;
 
     pub fn none() -> Refusal

@@ -13,9 +13,6 @@ use Rattle.answers.specs.Laid.{laid}
 pub laid-nil : (out : List ℕ) → laid [] out ≡ out
 laid-nil out = rw take-nil
 
-pub laid-length : (xs out : List ℕ) → length (laid xs out) ≡ length out
-laid-length xs out = simp (length-append, length-take, length-drop) (omega arith)
-
 -- as many of two lists as fit
 take-joined : (m : ℕ) (xs ys : List ℕ) → take m (xs ++ ys) ≡ take m xs ++ take (m - length xs) ys
 take-joined zero xs ys =

@@ -16,6 +16,7 @@ use Rattle.answers.specs.Refusals.{runs}
 use Rattle.answers.specs.Runs.{over, join}
 use Rattle.answers.proofs.Runs.{over-snoc}
 use Rattle.answers.proofs.Filled.{row-length, row-at}
+use Rattle.answers.proofs.Laid.{laid-length}
 use Rattle.description.specs.declared.Description.{Description}
 use Rattle.description.specs.Description.{sidesOf, boxBytes}
 use Rattle.description.proofs.Sides.{start-most}
@@ -25,7 +26,6 @@ use Rattle.batch.specs.declared.Asked.{Asked}
 use Rattle.batch.specs.declared.Batch.{Batch}
 use Rattle.batch.specs.Batch.{noWindow, usedBy, askedFrom, askedBuffer, foundByAll, foundBefore, batchBuffer}
 use Rattle.batch.specs.Code.Run.{usedAt, bufferAt}
-use Rattle.batch.proofs.Laying.{laid-length}
 use Rattle.batch.proofs.Run.{used-at, buffer-at, buffer-all}
 use Rattle.batch.proofs.Windows.{each-promised}
 use Rattle.c_query.specs.Lent.{windowBytes, lentBatch, windowAt, windowsOf, batchPlaces, recordAt, recordPlaces, LentAnswered}

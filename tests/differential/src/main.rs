@@ -5,15 +5,19 @@
 //!     differential [INPUTS] [SEED] [FIRST]
 //!     differential many [TILES]
 //!     differential parts [INPUTS] [SEED]
+//!     differential committed [INPUTS] [SEED]
 //!
-//! The second compares whole trees and lists of so many tiles, or of as many as there may be. The third compares bodies that arrive in parts.
+//! The second compares whole trees and lists of so many tiles, or of as many as there may be. The third compares bodies that arrive in parts, the
+//! fourth listings.
 //!
 //! Every number of every answer and every place of every buffer is compared, the ones that must stay as they were too. Some of the inputs are lent
 //! from pages with unreadable pages on both sides.
 
 mod cases;
+mod committed;
 mod guard;
 mod library;
+mod listing;
 mod many;
 mod parts;
 mod right;
@@ -120,9 +124,10 @@ impl Tally {
 }
 
 fn main() {
-    if std::env::args().nth(1).is_some_and(|a| a == "parts") {
+    let compare: [(&str, fn(u64, u64)); 2] = [("parts", parts::compare), ("committed", committed::compare)];
+    if let Some((_, compare)) = compare.iter().find(|(name, _)| std::env::args().nth(1).is_some_and(|a| a == *name)) {
         let numbers: Vec<u64> = std::env::args().skip(2).map(|a| a.parse().expect("a number")).collect();
-        return parts::compare(numbers.first().copied().unwrap_or(200_000), numbers.get(1).copied().unwrap_or(20_261_116));
+        return compare(numbers.first().copied().unwrap_or(200_000), numbers.get(1).copied().unwrap_or(20_261_116));
     }
     let many = std::env::args().nth(1).is_some_and(|a| a == "many");
     let arguments: Vec<u64> = std::env::args().skip(1 + usize::from(many)).map(|a| a.parse().expect("a number")).collect();

@@ -59,6 +59,8 @@ pub mod refusal {
     pub const WORK: u64 = 21;
     pub const RUNS: u64 = 22;
     pub const INFINITE: u64 = 23;
+    pub const BAD_LINE: u64 = 24;
+    pub const REPEATED: u64 = 25;
     pub const ROOM: u64 = 26;
 }
 
