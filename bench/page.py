@@ -17,6 +17,8 @@ BLOCKS = (4_096, 65_536, 1_048_576)
 COLOURS = {"ours": "#1d4ed8", "rust": "#d97706", "boost": "#047857", "libspatialindex": "#7c3aed"}
 KINDS = ["int32", "int64", "float32", "float64", "uint64", "mix"]
 FANOUTS = ["2", "10", "16", "1024"]
+# What is done to a body of mins or maxes, and how that is called.
+VALUES = {"check and read": "checked, and all values read", "check together": "checked together"}
 
 
 def read(text):
@@ -76,6 +78,10 @@ def groups(ratios, pictured=False):
     made += [("rust", "lists", [*of("rust", "offsets"), *of("rust", "var offsets"), *of("rust", "sizes")])]
     made += [] if pictured else [("rust", "a tree in blocks", of("rust", "parts"))]
     made += [] if pictured else [("rust", "committed folders of a listing", of("rust", "committed", "ordinary"))]
+    if not pictured:
+        made += [("rust", f"mins and maxes, {name}", of("rust", "values", what)) for what, name in VALUES.items()]
+        made += [("rust", f"mins and maxes, {kind}", of("rust", "values", kind)) for kind in [*KINDS[:-1], "var"]]
+        made += [("rust", "sums and null counts", [*of("rust", "values", "sums"), *of("rust", "values", "null counts")])]
     for peer in ("boost", "libspatialindex"):
         made += [(peer, f"query, {size} windows", of(peer, "query", size)) for size in ("small", "large")]
         made += [] if pictured else by_fanout[peer]
@@ -283,6 +289,11 @@ def page(tables, ratios):
             hash and differ only in their last bytes. Plain Rust keeps the records in the standard library's HashSet, whose hash can't be
             met so."""),
         pair_table({"names": "Names", "lines": "Lines", "bytes": "Bytes", "found": "Found"}, tables["committed"], "line"),
+        "## Mins, maxes, sums and null counts",
+        prose("""Checking a body; checking it and then reading all its values, one call a value, in plain Rust a call of a function that is
+            not inlined; and checking mins and maxes together. The summary has the last two. The check of integers or sums alone looks at
+            three numbers, and is a matter of some nanoseconds in either."""),
+        pair_table({"what": "What", "of": "Of", "n": "n"}, tables["values"], "value"),
         "## A tree in parts",
         prose("""A tree that arrives in blocks of a given size, beside opening the whole and beside plain Rust that takes the same blocks, in
             five times the rounds."""),

@@ -1,5 +1,5 @@
 /* Tussockbell for C and C++: the footer and the R-tree of a TileDB fragment's metadata, tile offsets, var offsets and
- * tile sizes; and R-trees written from their leaves.
+ * tile sizes, mins, maxes, sums and null counts; and R-trees written from their leaves.
  *
  * Every function takes any input and writes every place of its answer array; none keeps a pointer. A byte string is a
  * pointer and a length. With length 0 nothing is read or written through the pointer, which may then be null. A pointer
@@ -13,9 +13,10 @@
  * An answer's first two places are the refusal's number, 0 for none, and its place in the bytes that were lent;
  * where the refusal is about a window's side, the place is its dimension, from 0, and where it is about a listing, the
  * line, from 0. After a refusal every other number is 0 unless a comment says otherwise. The answers of
- * tussockbell_schema_name, tussockbell_extent, tussockbell_var_extent and tussockbell_extent_at hold no refusal, and
- * neither do the numbers that a function returns; tussockbell_footer, tussockbell_offsets and tussockbell_var_offsets
- * say whether a footer or a list is refused, and why. */
+ * tussockbell_schema_name, tussockbell_extent, tussockbell_var_extent, tussockbell_extent_at, tussockbell_range,
+ * tussockbell_var_value and tussockbell_var_value_at hold no refusal, and neither do the numbers that a function
+ * returns; tussockbell_footer, tussockbell_offsets, tussockbell_var_offsets, tussockbell_values and the like say whether
+ * a footer, a list or a body is refused, and why. */
 #ifndef TUSSOCKBELL_H
 #define TUSSOCKBELL_H
 
@@ -83,6 +84,7 @@ extern "C" {
 #define TUSSOCKBELL_REFUSED_BAD_LINE 24
 #define TUSSOCKBELL_REFUSED_REPEATED 25
 #define TUSSOCKBELL_REFUSED_ROOM 26
+#define TUSSOCKBELL_REFUSED_NULL_COUNT 27
 
 /* The text of a refusal number. */
 static inline const char *tussockbell_refusal_text(uint64_t number)
@@ -142,6 +144,8 @@ static inline const char *tussockbell_refusal_text(uint64_t number)
         return "a record repeated whole";
     case TUSSOCKBELL_REFUSED_ROOM:
         return "the output buffer is too short";
+    case TUSSOCKBELL_REFUSED_NULL_COUNT:
+        return "a null count above its tile's cells";
     default:
         return "no refusal number";
     }
@@ -237,6 +241,31 @@ static inline const char *tussockbell_refusal_text(uint64_t number)
 /* tussockbell_committed. Its refusals are placed at a line, from 0. */
 #define TUSSOCKBELL_COMMITTED_FOUND 2
 #define TUSSOCKBELL_COMMITTED_PLACES 3
+
+/* tussockbell_values, tussockbell_var_values and tussockbell_sums */
+#define TUSSOCKBELL_VALUES_TILES 2
+#define TUSSOCKBELL_VALUES_PLACES 3
+
+/* tussockbell_ranges and tussockbell_var_ranges. WHICH: 0 where the place counts in the mins or in neither, 1 where it
+ * counts in the maxes. */
+#define TUSSOCKBELL_RANGES_WHICH 2
+#define TUSSOCKBELL_RANGES_TILES 3
+#define TUSSOCKBELL_RANGES_PLACES 4
+
+/* tussockbell_range */
+#define TUSSOCKBELL_RANGE_MIN 0
+#define TUSSOCKBELL_RANGE_MAX 1
+#define TUSSOCKBELL_RANGE_PLACES 2
+
+/* tussockbell_var_value and tussockbell_var_value_at */
+#define TUSSOCKBELL_VAR_VALUE_START 0
+#define TUSSOCKBELL_VAR_VALUE_LENGTH 1
+#define TUSSOCKBELL_VAR_VALUE_PLACES 2
+
+/* tussockbell_null_counts. WHICH: 0 where the place counts in the footer or in neither, 1 where it counts in the body. */
+#define TUSSOCKBELL_NULL_COUNTS_WHICH 2
+#define TUSSOCKBELL_NULL_COUNTS_TILES 3
+#define TUSSOCKBELL_NULL_COUNTS_PLACES 4
 
 /* Opens a footer of a metadata file of `file_size` bytes: every number of it. A dimension of the domain is its kind
  * number and the bit patterns of its ends, an end of 4 bytes in the low half. Dimensions past those that there are,
@@ -356,6 +385,73 @@ void tussockbell_extent_at(uint64_t tiles, uint64_t size, const uint8_t *list, s
 /* Checks tile sizes, and adds them up. */
 void tussockbell_sizes(uint64_t tiles, const uint8_t *list, size_t list_length,
                        uint64_t *answer /* [TUSSOCKBELL_SIZES_PLACES] */);
+
+/* Mins and maxes of a field's tiles: a count, the values, the size of the var buffer, the var buffer. The answer of a body
+ * has its number of tiles. A value of a fixed kind is told as its bit pattern, one of 4 bytes in the low half.
+ *
+ * Checks the mins or the maxes of a field of a fixed kind. A `kind` that is no kind's number is
+ * TUSSOCKBELL_REFUSED_DESCRIPTION at 0, before the number of tiles. A NaN is TUSSOCKBELL_REFUSED_NOT_A_NUMBER at its
+ * start; infinities are fine. */
+void tussockbell_values(uint64_t kind, uint64_t tiles, const uint8_t *body, size_t body_length,
+                        uint64_t *answer /* [TUSSOCKBELL_VALUES_PLACES] */);
+
+/* A tile's value, counted from 0, after the whole body is checked; 0 where it is refused, and past the last tile. */
+uint64_t tussockbell_value(uint64_t kind, uint64_t tiles, const uint8_t *body, size_t body_length, uint64_t tile);
+
+/* The same with no check of the body, for one that tussockbell_values or tussockbell_ranges accepts with these numbers.
+ * Over other bytes a byte that is not there counts as 0. */
+uint64_t tussockbell_value_at(uint64_t kind, uint64_t tiles, const uint8_t *body, size_t body_length, uint64_t tile);
+
+/* Checks mins and maxes together: the mins whole, then the maxes whole, then each tile's min against its max, where a min
+ * above its max is TUSSOCKBELL_REFUSED_REVERSED at the start of the max. */
+void tussockbell_ranges(uint64_t kind, uint64_t tiles, const uint8_t *mins, size_t mins_length, const uint8_t *maxes,
+                        size_t maxes_length, uint64_t *answer /* [TUSSOCKBELL_RANGES_PLACES] */);
+
+/* A tile's min and max, after both bodies are checked together; 0 and 0 where they are refused, and past the last tile. */
+void tussockbell_range(uint64_t kind, uint64_t tiles, const uint8_t *mins, size_t mins_length, const uint8_t *maxes,
+                       size_t maxes_length, uint64_t tile, uint64_t *answer /* [TUSSOCKBELL_RANGE_PLACES] */);
+
+/* Checks the mins or the maxes of a var field, whose values are starts in the var buffer: the first is 0, none is below the
+ * one before or above the buffer's size, else TUSSOCKBELL_REFUSED_TILE_OFFSETS at its start. */
+void tussockbell_var_values(uint64_t tiles, const uint8_t *body, size_t body_length,
+                            uint64_t *answer /* [TUSSOCKBELL_VALUES_PLACES] */);
+
+/* Where a tile's value starts in the lent body, and its bytes, after the whole body is checked; 0 and 0 where it is
+ * refused, and past the last tile. */
+void tussockbell_var_value(uint64_t tiles, const uint8_t *body, size_t body_length, uint64_t tile,
+                           uint64_t *answer /* [TUSSOCKBELL_VAR_VALUE_PLACES] */);
+
+/* The same with no check of the body, for one that tussockbell_var_values or tussockbell_var_ranges accepts with this
+ * number of tiles. Whatever the bytes are, what is told lies in the body; 0 and 0 where the value would not. */
+void tussockbell_var_value_at(uint64_t tiles, const uint8_t *body, size_t body_length, uint64_t tile,
+                              uint64_t *answer /* [TUSSOCKBELL_VAR_VALUE_PLACES] */);
+
+/* Checks mins and maxes of a var field together: the mins whole, then the maxes. Their values are not compared. */
+void tussockbell_var_ranges(uint64_t tiles, const uint8_t *mins, size_t mins_length, const uint8_t *maxes, size_t maxes_length,
+                            uint64_t *answer /* [TUSSOCKBELL_RANGES_PLACES] */);
+
+/* Checks the sums of a field's tiles, a count and as many raw 64-bit values. What a sum stands for follows from the field. */
+void tussockbell_sums(uint64_t tiles, const uint8_t *body, size_t body_length,
+                      uint64_t *answer /* [TUSSOCKBELL_VALUES_PLACES] */);
+
+/* A tile's sum, after the whole body is checked; 0 where it is refused, and past the last tile. */
+uint64_t tussockbell_sum(uint64_t tiles, const uint8_t *body, size_t body_length, uint64_t tile);
+
+/* The same with no check of the body, for one that tussockbell_sums accepts with this number of tiles; and a tile's null
+ * count, for one that tussockbell_null_counts accepts, with the tiles of its answer. Over other bytes a byte that is not
+ * there counts as 0. */
+uint64_t tussockbell_sum_at(uint64_t tiles, const uint8_t *body, size_t body_length, uint64_t tile);
+
+/* Checks a footer, and with it the null counts of a field's tiles, a count and as many u64: one above its tile's cells is
+ * TUSSOCKBELL_REFUSED_NULL_COUNT at its start. */
+void tussockbell_null_counts(const uint8_t *kinds, size_t kinds_length, uint64_t fields, uint64_t capacity, uint64_t file_size,
+                             const uint8_t *footer, size_t footer_length, const uint8_t *body, size_t body_length,
+                             uint64_t *answer /* [TUSSOCKBELL_NULL_COUNTS_PLACES] */);
+
+/* A tile's null count, after footer and body are checked; 0 where one of them is refused, and past the last tile. */
+uint64_t tussockbell_null_count(const uint8_t *kinds, size_t kinds_length, uint64_t fields, uint64_t capacity,
+                                uint64_t file_size, const uint8_t *footer, size_t footer_length, const uint8_t *body,
+                                size_t body_length, uint64_t tile);
 
 /* Writes the whole R-tree of `tiles` leaf boxes to the start of `out`: each box above them is the least box around its
  * row of children, at most `fanout` of them, and between equal ends, as 0.0 and -0.0 are, has the bytes of the first

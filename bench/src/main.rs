@@ -10,6 +10,7 @@ mod committed;
 mod data;
 mod peers;
 mod plain;
+mod values;
 
 use data::{CAPACITY, Cells, FIELDS};
 use peers::Peer;
@@ -43,7 +44,7 @@ const TRIALS: usize = 3;
 /// A tree in parts comes in blocks of these sizes.
 const BLOCKS: [usize; 3] = [4_096, 65_536, 1_048_576];
 
-const TABLES: [(&str, &str); 11] = [
+const TABLES: [(&str, &str); 12] = [
     ("run", "rounds\tleast us\ttrials\tsmall windows\tlarge windows\tboost capacities\tlibspatialindex capacities"),
     (
         "query",
@@ -62,6 +63,7 @@ const TABLES: [(&str, &str); 11] = [
     ("parts", "kind\tD\tf\tn\tbytes\tblock\tparts ns\twhole ns\trust ns"),
     ("committed", "names\tlines\tbytes\tfound\tours ns\tours ns/line\trust ns\trust ns/line"),
     ("batch", "kind\tD\tn\twindow\tfound\tlooked\tbatch ns\tsingle ns"),
+    ("values", "what\tof\tn\tours ns\tours ns/value\trust ns\trust ns/value"),
 ];
 
 type Run<'a> = Box<dyn FnMut() + 'a>;
@@ -559,6 +561,7 @@ fn main() {
     }
     bench.list_cases();
     bench.committed_cases();
+    bench.values_cases();
     bench.batch_cases();
     bench.growth();
     let most = arguments.get(2).map_or(usize::MAX, |tiles| tiles.parse().expect("a number of tiles"));

@@ -12,7 +12,7 @@ pub enum Kind {
 }
 
 /// Least and most.
-mod limits {
+pub mod limits {
     use std::ops::RangeInclusive;
 
     pub const DIMENSIONS: RangeInclusive<usize> = 1..=4;
@@ -54,6 +54,7 @@ pub mod refusal {
     pub const BAD_LINE: u64 = 24;
     pub const REPEATED: u64 = 25;
     pub const ROOM: u64 = 26;
+    pub const NULL_COUNT: u64 = 27;
 }
 
 #[derive(Debug, PartialEq)]
@@ -67,11 +68,11 @@ pub fn refuse<T>(number: u64, place: usize) -> Result<T, Refused> {
     Err(Refused { number, place: place as u64, which: 0 })
 }
 
-fn u32_at(bytes: &[u8], at: usize) -> u32 {
+pub fn u32_at(bytes: &[u8], at: usize) -> u32 {
     u32::from_le_bytes(bytes[at..at + 4].try_into().unwrap())
 }
 
-fn u64_at(bytes: &[u8], at: usize) -> u64 {
+pub fn u64_at(bytes: &[u8], at: usize) -> u64 {
     u64::from_le_bytes(bytes[at..at + 8].try_into().unwrap())
 }
 
@@ -468,6 +469,13 @@ pub fn query(
     let mut walk = Walk { body: tree, window: &window[..d.dimensions], width, shape: &shape, out, found: 0, looked: 0 };
     walk.row(0, 0, 1);
     Ok((walk.found as u64, walk.looked as u64))
+}
+
+/// A footer's tiles, and the last one's cells.
+pub fn cells(kinds: &[u8], fields: u64, capacity: u64, file_size: u64, bytes: &[u8]) -> Result<(u64, u64), Refused> {
+    let d = Description::new(kinds, fields, capacity)?;
+    let (tiles, domain) = footer(&d, file_size, bytes)?;
+    Ok((tiles, u64_at(bytes, domain + d.box_bytes() + 8)))
 }
 
 /// The number of tiles of a footer, and where its domain starts.

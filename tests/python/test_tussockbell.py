@@ -678,6 +678,7 @@ class Refusals(unittest.TestCase):
             24: (lambda: tb.committed(b"wrt\t__1_2_ab_16\n\n", 5), 1, 0),
             25: (lambda: tb.committed(b"wrt\t__1_2_ab_16\nwrt\t__1_2_ab_16\n", 5), 1, 0),
             26: (lambda: tb.write_tree_into(ONE, 3, 2, body[56:], bytearray(79)), 0, 0),
+            27: (lambda: tb.null_counts(ONE, SAMPLE_SIZE, foot, pieces.entries([0, 0, 6])), 24, 1),
         }
         self.assertEqual(list(cases), REFUSALS)
         for number, (ask, place, which) in cases.items():
@@ -1186,7 +1187,7 @@ class Writing(unittest.TestCase):
 
 def everything():
     """All names of the package's modules."""
-    return {name: value for each in (tb, tb._committed) for name, value in vars(each).items()}
+    return {name: value for each in (tb, tb._committed, tb._values) for name, value in vars(each).items()}
 
 
 class Header(unittest.TestCase):
@@ -1216,10 +1217,10 @@ class Header(unittest.TestCase):
         """Parameters and results as the header declares them."""
         types = {"uint64_t": ctypes.c_uint64, "size_t": ctypes.c_size_t, "void": None}
         declared = re.findall(r"^(\w+) tussockbell_(\w+)\(([^;{]*)\);", self.header, re.M)
-        self.assertEqual(len(declared), 22)
+        self.assertEqual(len(declared), 36)
         asked = {name: function for name, function in everything().items() if name.startswith("_c_")}
         # with a check that the binding has made before
-        checked = {"schema_name", "cells", "total_cells", "extent", "var_extent"}
+        checked = {"schema_name", "cells", "total_cells", "extent", "var_extent", "value", "range", "var_value", "sum", "null_count"}
         self.assertEqual({name for _, name, _ in declared if "_c_" + name not in asked}, {*checked, "report"})
         for result, name, parameters in declared:
             if "_c_" + name in asked:

@@ -66,6 +66,7 @@ class Refusal:
     BAD_LINE = 24
     REPEATED = 25
     ROOM = 26
+    NULL_COUNT = 27
 
 
 def allowed(what, x):

@@ -69,9 +69,10 @@ from dataclasses import dataclass, field
 from typing import Any, NamedTuple, Optional, Protocol, SupportsFloat, SupportsIndex, Tuple, Union, cast, overload
 
 __all__ = [
-    "Committed", "Description", "Footer", "Hit", "Offsets", "Opened", "Refused", "Tree", "TreeParts", "Window",
-    "box_test", "committed", "open_tree", "query", "query_batch", "read_footer", "tile_offsets", "tile_sizes", "tree_length",
-    "var_tile_offsets", "write_tree", "write_tree_into",
+    "Committed", "Description", "Footer", "Hit", "NullCounts", "Offsets", "Opened", "Refused", "TileRanges", "TileSums",
+    "TileValues", "Tree", "TreeParts", "VarValues", "Window", "box_test", "committed", "null_counts", "open_tree",
+    "query", "query_batch", "read_footer", "tile_offsets", "tile_ranges", "tile_sizes", "tile_sums", "tile_values",
+    "tree_length", "var_tile_offsets", "write_tree", "write_tree_into",
 ]
 
 __version__ = "0.2.0"
@@ -129,6 +130,7 @@ _TEXTS = {
     24: "a bad line of a listing",
     25: "a record repeated whole",
     26: "the output buffer is too short",
+    27: "a null count above its tile's cells",
 }
 
 _NUMBER, _PLACE = 0, 1
@@ -1172,7 +1174,9 @@ def write_tree_into(
             return _write(description, _limited(tiles), _limited(fanout), lent, room)
 
 
-# ---- listings
+# ---- listings, and what is known of a tile's values: modules that stand on what is above, so these lines come last
 
-# They stand on what is above, so this comes last.
 from tussockbell._committed import Committed, committed  # noqa: E402
+from tussockbell._values import (  # noqa: E402
+    NullCounts, TileRanges, TileSums, TileValues, VarValues, null_counts, tile_ranges, tile_sums, tile_values,
+)

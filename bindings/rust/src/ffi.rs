@@ -317,3 +317,83 @@ pub(crate) fn committed(listing: &[u8], time: u64, out: &mut [u32]) -> [u64; COM
     unsafe { tussockbell_committed(text, length, time, out.as_mut_ptr(), out.len(), answer.as_mut_ptr()) };
     answer
 }
+
+// ---- mins, maxes, sums and null counts
+
+use crate::places::{NULL_COUNTS_PLACES, RANGES_PLACES, VALUES_PLACES, VAR_VALUE_PLACES};
+
+#[rustfmt::skip] // one line a row of parameters, as in the header
+extern "C" {
+    fn tussockbell_values(kind: u64, tiles: u64, body: *const u8, body_length: usize, answer: *mut u64);
+    fn tussockbell_value_at(kind: u64, tiles: u64, body: *const u8, body_length: usize, tile: u64) -> u64;
+    fn tussockbell_ranges(kind: u64, tiles: u64, mins: *const u8, mins_length: usize, maxes: *const u8,
+                          maxes_length: usize, answer: *mut u64);
+    fn tussockbell_var_values(tiles: u64, body: *const u8, body_length: usize, answer: *mut u64);
+    fn tussockbell_var_value_at(tiles: u64, body: *const u8, body_length: usize, tile: u64, answer: *mut u64);
+    fn tussockbell_var_ranges(tiles: u64, mins: *const u8, mins_length: usize, maxes: *const u8, maxes_length: usize,
+                              answer: *mut u64);
+    fn tussockbell_sums(tiles: u64, body: *const u8, body_length: usize, answer: *mut u64);
+    fn tussockbell_sum_at(tiles: u64, body: *const u8, body_length: usize, tile: u64) -> u64;
+    fn tussockbell_null_counts(kinds: *const u8, kinds_length: usize, fields: u64, capacity: u64, file_size: u64,
+                               footer: *const u8, footer_length: usize, body: *const u8, body_length: usize,
+                               answer: *mut u64);
+}
+
+pub(crate) fn values(kind: Kind, tiles: u64, body: &[u8]) -> [u64; VALUES_PLACES] {
+    let mut answer = [0; VALUES_PLACES];
+    // SAFETY: pointer and length of a slice, and an answer array of the header's places.
+    unsafe { tussockbell_values(kind as u64, tiles, body.as_ptr(), body.len(), answer.as_mut_ptr()) };
+    answer
+}
+
+pub(crate) fn value_at(kind: Kind, tiles: u64, body: &[u8], tile: u64) -> u64 {
+    // SAFETY: pointer and length of a slice.
+    unsafe { tussockbell_value_at(kind as u64, tiles, body.as_ptr(), body.len(), tile) }
+}
+
+pub(crate) fn ranges(kind: Kind, tiles: u64, mins: &[u8], maxes: &[u8]) -> [u64; RANGES_PLACES] {
+    let (mut answer, [a, b]) = ([0; RANGES_PLACES], [mins, maxes]);
+    // SAFETY: pointers and lengths of slices, and an answer array of the header's places.
+    unsafe { tussockbell_ranges(kind as u64, tiles, a.as_ptr(), a.len(), b.as_ptr(), b.len(), answer.as_mut_ptr()) };
+    answer
+}
+
+pub(crate) fn var_values(tiles: u64, body: &[u8]) -> [u64; VALUES_PLACES] {
+    let mut answer = [0; VALUES_PLACES];
+    // SAFETY: pointer and length of a slice, and an answer array of the header's places.
+    unsafe { tussockbell_var_values(tiles, body.as_ptr(), body.len(), answer.as_mut_ptr()) };
+    answer
+}
+
+pub(crate) fn var_value_at(tiles: u64, body: &[u8], tile: u64) -> [u64; VAR_VALUE_PLACES] {
+    let mut answer = [0; VAR_VALUE_PLACES];
+    // SAFETY: pointer and length of a slice, and an answer array of the header's places.
+    unsafe { tussockbell_var_value_at(tiles, body.as_ptr(), body.len(), tile, answer.as_mut_ptr()) };
+    answer
+}
+
+pub(crate) fn var_ranges(tiles: u64, mins: &[u8], maxes: &[u8]) -> [u64; RANGES_PLACES] {
+    let (mut answer, [a, b]) = ([0; RANGES_PLACES], [mins, maxes]);
+    // SAFETY: pointers and lengths of slices, and an answer array of the header's places.
+    unsafe { tussockbell_var_ranges(tiles, a.as_ptr(), a.len(), b.as_ptr(), b.len(), answer.as_mut_ptr()) };
+    answer
+}
+
+pub(crate) fn sums(tiles: u64, body: &[u8]) -> [u64; VALUES_PLACES] {
+    let mut answer = [0; VALUES_PLACES];
+    // SAFETY: pointer and length of a slice, and an answer array of the header's places.
+    unsafe { tussockbell_sums(tiles, body.as_ptr(), body.len(), answer.as_mut_ptr()) };
+    answer
+}
+
+pub(crate) fn sum_at(tiles: u64, body: &[u8], tile: u64) -> u64 {
+    // SAFETY: pointer and length of a slice.
+    unsafe { tussockbell_sum_at(tiles, body.as_ptr(), body.len(), tile) }
+}
+
+pub(crate) fn null_counts(asked: Asked, body: &[u8]) -> [u64; NULL_COUNTS_PLACES] {
+    let mut answer = [0; NULL_COUNTS_PLACES];
+    // SAFETY: pointers and lengths of slices, and an answer array of the header's places.
+    unsafe { with_footer!(tussockbell_null_counts, asked, body.as_ptr(), body.len(), answer.as_mut_ptr()) };
+    answer
+}

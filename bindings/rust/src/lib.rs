@@ -10,6 +10,8 @@
 //! - [`query`] answers a window over a tree's plain bytes, [`query_batch`] all windows of a batch in one call.
 //! - [`box_test`] tests one box against a window, and tells how many dimensions it read.
 //! - [`tile_offsets`], [`var_tile_offsets`] and [`tile_sizes`] read a field's lists.
+//! - [`tile_values`], [`tile_ranges`], [`tile_sums`] and [`null_counts`] read what is known of a field in each tile;
+//!   [`var_tile_values`] and [`var_tile_ranges`] are for var fields.
 //! - [`write_tree`] writes an R-tree from its leaf boxes, and [`tree_length`] tells how many bytes it has.
 //! - [`committed`] tells which folders of a listing are committed.
 //! - [`report`] writes the report of four files as text.
@@ -53,6 +55,7 @@ mod places;
 mod ranges;
 mod refused;
 mod tree;
+mod values;
 mod write;
 
 pub use batch::{query_batch, query_batch_bytes, Record};
@@ -63,6 +66,8 @@ pub use parts::{Opened, TreeParts};
 pub use ranges::{Description, Kind, Range};
 pub use refused::{Refused, Which};
 pub use tree::{box_test, open_tree, query, Answer, Tested, Tree};
+pub use values::{null_counts, tile_ranges, tile_sums, tile_values, var_tile_ranges, var_tile_values};
+pub use values::{NullCounts, TileRanges, TileSums, TileValues, Value, VarValues};
 pub use write::{tree_length, write_tree};
 
 /// The version of this crate, which is that of the library and its header.

@@ -8,7 +8,8 @@ use std::fmt;
 pub enum Which {
     /// The first or only one, and where the refusal is about the bytes of neither.
     First,
-    /// The second one: the tree that [`open_tree`](crate::open_tree) takes after the footer.
+    /// The second one: what [`open_tree`](crate::open_tree), [`tile_ranges`](crate::tile_ranges) and
+    /// [`null_counts`](crate::null_counts) take last.
     Second,
 }
 
@@ -80,6 +81,7 @@ refusals! {
     24 BAD_LINE "a bad line of a listing";
     25 REPEATED "a record repeated whole";
     26 ROOM "the output buffer is too short";
+    27 NULL_COUNT "a null count above its tile's cells";
 }
 
 impl Refused {
@@ -96,7 +98,7 @@ impl fmt::Display for Refused {
     fn fmt(&self, f: &mut fmt::Formatter<'_>) -> fmt::Result {
         let of = match self.which {
             Which::First => "",
-            Which::Second => " of the tree",
+            Which::Second => " of the second",
         };
         write!(f, "refused {} at {}{of}: {}", self.number, self.place, self.text())
     }

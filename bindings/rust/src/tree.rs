@@ -126,7 +126,7 @@ pub struct Tree<'a> {
 ///
 /// bytes[76] = 25; // the last tile's maximum
 /// let refused = open_tree(&description, 1166, &footer, &bytes).unwrap_err();
-/// assert_eq!(refused.to_string(), "refused 15 at 72 of the tree: a box not inside its parent");
+/// assert_eq!(refused.to_string(), "refused 15 at 72 of the second: a box not inside its parent");
 /// # Ok::<(), Box<dyn std::error::Error>>(())
 /// ```
 pub fn open_tree<'a>(

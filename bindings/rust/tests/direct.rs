@@ -281,7 +281,7 @@ fn a_refusal_is_an_error_that_says_what_is_wrong() {
         query(&sample.description(), 3, &sample.tree, &window, &mut []).unwrap_err().into();
     assert_eq!(error.to_string(), "refused 9 at 0: minimum above maximum");
     let refused = open_tree(&sample.description(), 1166, &sample.footer, &[0; 8]).unwrap_err();
-    assert_eq!(refused.to_string(), "refused 13 at 0 of the tree: fanout outside the limits");
+    assert_eq!(refused.to_string(), "refused 13 at 0 of the second: fanout outside the limits");
 }
 
 #[test]

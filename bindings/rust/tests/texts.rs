@@ -59,6 +59,8 @@ fn places_are_the_headers() {
     // a domain's kinds are the description's, a list's length is the description's number of fields, and a batch answers as
     // many windows as it has records
     places.extend([("DOMAIN_KIND", 0), ("FOOTER_LIST_PLACES", Description::MOST_FIELDS), ("BATCH_WINDOWS", 2)]);
+    // one tile of a pair is asked for with no check of the bodies
+    places.extend([("RANGE_MIN", 0), ("RANGE_MAX", 1), ("RANGE_PLACES", 2)]);
     places.insert("REPORT_MOST", tussockbell::REPORT_MOST as u64);
     assert_eq!(part(|name| !is_kind(name) && !is_refusal(name) && !is_limit(name)), places);
 }
@@ -83,7 +85,7 @@ fn refusal_numbers_are_the_headers() {
     let named = named!(
         DESCRIPTION BYTES VERSION NAME_SIZE FLAG DENSE NULL_DOMAIN NOT_A_NUMBER REVERSED TILES LAST_CELLS OFFSET FANOUT
         LEVELS OUTSIDE_PARENT OUTSIDE_DOMAIN COUNT TILE_OFFSETS WINDOW SUM WORK RUNS INFINITE BAD_LINE
-        REPEATED ROOM
+        REPEATED ROOM NULL_COUNT
     );
     let mut expected = BTreeMap::from(named);
     expected.insert("NOT_REFUSED", 0);

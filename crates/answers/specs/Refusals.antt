@@ -113,3 +113,7 @@ repeated = 25
 -- the output buffer is too short
 abbrev pub room : ℕ
 room = 26
+
+-- a null count above its tile's cells
+abbrev pub nullCount : ℕ
+nullCount = 27

@@ -64,6 +64,8 @@ impl Refusal {
 
     pub const ROOM: u64 = 26;
 
+    pub const NULL_COUNT: u64 = 27;
+
     pub fn none() -> Refusal
         ensures { λ r. ⌜ r ≡ none ⌝ }
     {

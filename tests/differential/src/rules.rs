@@ -62,6 +62,7 @@ pub mod refusal {
     pub const BAD_LINE: u64 = 24;
     pub const REPEATED: u64 = 25;
     pub const ROOM: u64 = 26;
+    pub const NULL_COUNT: u64 = 27;
 }
 
 #[derive(Clone, Copy, Debug, PartialEq)]

@@ -1,0 +1,10 @@
+-- `c_values::is_kind` meets its contract: the number is that of the kind it stands for. Assumes nothing.
+use borrow.Author.Needs.{needs}
+use Rattle.c_values.proofs.is_kind.Statement.{statement}
+use Rattle.c_values.proofs.is_kind.Tie as tie
+
+returns : tie.Need-returns
+returns c = cc
+
+pub is-kind-spec : {M : Type 1} → statement M
+is-kind-spec = tie.close (tie.spec (λ c κs. search needs) (λ c κs. search needs) returns)

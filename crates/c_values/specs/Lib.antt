@@ -1,0 +1,3 @@
+-- The definitions that the exported functions' contracts cite.
+pub mod Numbered
+pub mod Places

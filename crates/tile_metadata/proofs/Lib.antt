@@ -1,0 +1,4 @@
+-- The laws that belong to no one function.
+pub mod Turns
+pub mod Bodies
+pub mod Asked
