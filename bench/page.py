@@ -12,7 +12,7 @@ import textwrap
 
 PEERS = {"rust": "plain Rust", "boost": "Boost.Geometry", "libspatialindex": "libspatialindex"}
 # Other ways of our own that a way of ours stands beside.
-OWN = {"whole": "opening the whole", "single": "single calls"}
+OWN = {"whole": "opening the whole", "single": "single calls", "queries": "single queries"}
 BLOCKS = (4_096, 65_536, 1_048_576)
 COLOURS = {"ours": "#1d4ed8", "rust": "#d97706", "boost": "#047857", "libspatialindex": "#7c3aed"}
 KINDS = ["int32", "int64", "float32", "float64", "uint64", "mix"]
@@ -90,6 +90,8 @@ def groups(ratios, pictured=False):
             made += [("whole", f"a tree in blocks of {block:,} bytes", of("whole", f"block={block}"))]
             made += [("whole", f"in blocks of {block:,}, f = 2", of("whole", f"block={block}", "f=2"))]
         made += [("single", "a batch of 32 windows, from C", of("single", "batch"))]
+        for boxes in (100, 1_000):
+            made += [(peer, f"a log replayed, {boxes:,} boxes a query", of(peer, "replay", f"boxes={boxes}")) for peer in ("rust", "queries")]
     return [group for group in made if group[2]]
 
 
@@ -148,6 +150,16 @@ def parts_table(rows):
         known = [row["kind"], row["D"], row["f"], row["n"], f"{float(row['bytes']):,.0f}", f"{int(row['block']):,}"]
         parts, whole, rust = (float(row[name]) for name in ("parts ns", "whole ns", "rust ns"))
         made.append([*known, short(parts), short(whole), short(parts / whole), short(rust), short(parts / rust)])
+    return table(header, made)
+
+
+def replay_table(rows):
+    header = ["Kind", "D", "n", "Bytes", "Looked", "Replay", "Rust", "/ Rust", "Single", "/ single"]
+    made = []
+    for row in rows:
+        ours, rust, single = (float(row[name]) for name in ("ours ns", "rust ns", "single ns"))
+        known = [row["kind"], row["D"], row["n"], row["bytes"], short(row["looked"])]
+        made.append([*known, short(ours), short(rust), short(ours / rust), short(single), short(ours / single)])
     return table(header, made)
 
 
@@ -304,6 +316,11 @@ def page(tables, ratios):
         prose("""The same through Python, over 4,096 tiles of two float64 dimensions at f = 16: 32 calls of `query`, one of `query_batch` with a
             list of windows, and one with a buffer of them."""),
         python_table(tables["python"]),
+        "## A log replayed",
+        prose("""A log of 10,000 records with 113 bytes of room for each line, f = 16, windows that look at about 100 or 1,000 boxes; one
+            record in ten differs. Beside it plain Rust that reads, asks and writes the same, and as many single queries from C, with no room.
+            Bytes and times are a record's."""),
+        replay_table(tables["replay"]),
     ]
     return "\n\n".join(sections) + "\n"
 

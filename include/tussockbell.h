@@ -267,6 +267,10 @@ static inline const char *tussockbell_refusal_text(uint64_t number)
 #define TUSSOCKBELL_NULL_COUNTS_TILES 3
 #define TUSSOCKBELL_NULL_COUNTS_PLACES 4
 
+/* tussockbell_replay */
+#define TUSSOCKBELL_REPLAY_LENGTH 2
+#define TUSSOCKBELL_REPLAY_PLACES 3
+
 /* Opens a footer of a metadata file of `file_size` bytes: every number of it. A dimension of the domain is its kind
  * number and the bit patterns of its ends, an end of 4 bytes in the low half. Dimensions past those that there are,
  * and all of them after a refusal, are an int64 range 0 to 0, so that their kind place is 1. List places past
@@ -489,6 +493,21 @@ void tussockbell_committed(const uint8_t *listing, size_t listing_length, uint64
 size_t tussockbell_report(const uint8_t *description, size_t description_length, const uint8_t *footer, size_t footer_length,
                           const uint8_t *tree, size_t tree_length, const uint8_t *offsets, size_t offsets_length, uint8_t *out,
                           size_t out_length);
+
+/* Replays a log of queries against a tree of `tiles` tiles. A line of the log is a record: tab-parted decimal numbers,
+ * the minimum and the maximum of each dimension in turn, then the number found and the number looked at. A line ends in
+ * one newline, which the last may lack. For each record, in order, one tab-parted line goes to `out`, ended by one
+ * newline: its number, from 0, `same` or `differs`, the logged pair, and the pair found now; `same` exactly where both
+ * numbers agree. A line that can't be read, is above 255 bytes or holds a query that is refused gives its number and
+ * `bad`; a description with a float dimension, and one outside the limits or a tree that a query refuses, make every
+ * line so. The answer has the text's length; bytes of `out` past it stay. TUSSOCKBELL_REFUSED_ROOM at 0, the one
+ * refusal, says that `out` is shorter than the text: then nothing is written. TUSSOCKBELL_REPLAY_LINE bytes for each
+ * line of the log are always room enough, and with so much the queries are asked once; with less they are asked once
+ * more, to measure the text. */
+#define TUSSOCKBELL_REPLAY_LINE 113
+void tussockbell_replay(const uint8_t *kinds, size_t kinds_length, uint64_t fields, uint64_t capacity, uint64_t tiles,
+                        const uint8_t *tree, size_t tree_length, const uint8_t *log, size_t log_length, uint8_t *out,
+                        size_t out_length, uint64_t *answer /* [TUSSOCKBELL_REPLAY_PLACES] */);
 
 #ifdef __cplusplus
 }

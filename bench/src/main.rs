@@ -10,6 +10,7 @@ mod committed;
 mod data;
 mod peers;
 mod plain;
+mod replay;
 mod values;
 
 use data::{CAPACITY, Cells, FIELDS};
@@ -44,7 +45,7 @@ const TRIALS: usize = 3;
 /// A tree in parts comes in blocks of these sizes.
 const BLOCKS: [usize; 3] = [4_096, 65_536, 1_048_576];
 
-const TABLES: [(&str, &str); 12] = [
+const TABLES: [(&str, &str); 13] = [
     ("run", "rounds\tleast us\ttrials\tsmall windows\tlarge windows\tboost capacities\tlibspatialindex capacities"),
     (
         "query",
@@ -64,6 +65,7 @@ const TABLES: [(&str, &str); 12] = [
     ("committed", "names\tlines\tbytes\tfound\tours ns\tours ns/line\trust ns\trust ns/line"),
     ("batch", "kind\tD\tn\twindow\tfound\tlooked\tbatch ns\tsingle ns"),
     ("values", "what\tof\tn\tours ns\tours ns/value\trust ns\trust ns/value"),
+    ("replay", "kind\tD\tn\tbytes\tlooked\tours ns\trust ns\tsingle ns"),
 ];
 
 type Run<'a> = Box<dyn FnMut() + 'a>;
@@ -563,6 +565,7 @@ fn main() {
     bench.committed_cases();
     bench.values_cases();
     bench.batch_cases();
+    bench.replay_cases();
     bench.growth();
     let most = arguments.get(2).map_or(usize::MAX, |tiles| tiles.parse().expect("a number of tiles"));
     for tiles in GROWING_TILES.into_iter().filter(|tiles| *tiles <= most) {

@@ -1,6 +1,9 @@
 //! The library's operations as one would write them in plain Rust, to compare speeds with: the same input, the same checks, the same walk, no
 //! proofs. What goes in and comes out is what the C functions take and answer, so that one could stand in for the other.
 
+#[path = "plain_replay.rs"]
+pub mod replay;
+
 /// By TileDB's Datatype number.
 #[derive(Clone, Copy, PartialEq)]
 pub enum Kind {

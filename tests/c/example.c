@@ -62,6 +62,17 @@ static void query(const uint8_t *tree, size_t length, const uint8_t *window_kind
            out[1], out[2]);
 }
 
+/* A log of three records, the last of which is reversed and lacks its newline, with so much room. */
+static void replay(const uint8_t *tree, size_t length, size_t room)
+{
+    static const char log[] = "12\t21\t2\t6\n5\t9\t1\t5\n9\t5\t0\t0";
+    uint8_t out[3 * TUSSOCKBELL_REPLAY_LINE];
+    uint64_t answer[TUSSOCKBELL_REPLAY_PLACES];
+    tussockbell_replay(kinds, 1, 1, 32, 3, tree, length, (const uint8_t *)log, sizeof log - 1, out, room, answer);
+    show("replay", answer, TUSSOCKBELL_REPLAY_PLACES);
+    printf("%.*s", (int)answer[TUSSOCKBELL_REPLAY_LENGTH], (const char *)out);
+}
+
 /* Three windows in one call, the second of them reversed, with room for `room` tiles and numbers for `places / 5` answers. */
 static void batch(const uint8_t *tree, size_t length, size_t room, size_t places)
 {
@@ -222,5 +233,7 @@ int main(void)
     committed("\nwrt\t__1_2_a_21", 5, 3);
     tussockbell_committed(NULL, 0, 0, NULL, 0, sizes);
     show("nothing committed", sizes, TUSSOCKBELL_COMMITTED_PLACES);
+    replay(tree, length, 3 * TUSSOCKBELL_REPLAY_LINE);
+    replay(tree, length, 20);
     return 0;
 }

@@ -1187,7 +1187,7 @@ class Writing(unittest.TestCase):
 
 def everything():
     """All names of the package's modules."""
-    return {name: value for each in (tb, tb._committed, tb._values) for name, value in vars(each).items()}
+    return {name: value for each in (tb, tb._committed, tb._values, tb._replay) for name, value in vars(each).items()}
 
 
 class Header(unittest.TestCase):
@@ -1203,7 +1203,7 @@ class Header(unittest.TestCase):
 
     def test_places(self):
         constants = {name[1:]: value for name, value in everything().items() if re.fullmatch("_[A-Z0-9_]+", name)}
-        own = ("LARGEST", "NO_KIND", "FIRST_ROOM", "NAME_AT", "MOST_LINES")
+        own = ("LARGEST", "NO_KIND", "FIRST_ROOM", "NAME_AT", "MOST_LINES", "BLOCK")
         used = {name: value for name, value in constants.items() if isinstance(value, int) and name not in own}
         self.assertEqual(used, {name: self.defined.get(name) for name in used})
         self.assertGreater(len(used), 25)
@@ -1217,7 +1217,7 @@ class Header(unittest.TestCase):
         """Parameters and results as the header declares them."""
         types = {"uint64_t": ctypes.c_uint64, "size_t": ctypes.c_size_t, "void": None}
         declared = re.findall(r"^(\w+) tussockbell_(\w+)\(([^;{]*)\);", self.header, re.M)
-        self.assertEqual(len(declared), 36)
+        self.assertEqual(len(declared), 37)
         asked = {name: function for name, function in everything().items() if name.startswith("_c_")}
         # with a check that the binding has made before
         checked = {"schema_name", "cells", "total_cells", "extent", "var_extent", "value", "range", "var_value", "sum", "null_count"}

@@ -12,6 +12,7 @@
         offset, extent = offsets[tile]
     body = tb.write_tree(d, tiles, fanout, leaf_boxes)
     names = tb.committed(listing, time).names
+    text = tree.replay(log_bytes)
 
 Every function asks the proved library, and raises `Refused`, with a number and a place, where the library refuses.
 docs/RULES.md has the rules. Numbers outside the limits are refused like any other bad input, however large or small they are.
@@ -70,9 +71,9 @@ from typing import Any, NamedTuple, Optional, Protocol, SupportsFloat, SupportsI
 
 __all__ = [
     "Committed", "Description", "Footer", "Hit", "NullCounts", "Offsets", "Opened", "Refused", "TileRanges", "TileSums",
-    "TileValues", "Tree", "TreeParts", "VarValues", "Window", "box_test", "committed", "null_counts", "open_tree",
-    "query", "query_batch", "read_footer", "tile_offsets", "tile_ranges", "tile_sizes", "tile_sums", "tile_values",
-    "tree_length", "var_tile_offsets", "write_tree", "write_tree_into",
+    "TileValues", "Tree", "TreeParts", "VarValues", "Window", "box_test", "committed", "log_line", "null_counts",
+    "open_tree", "query", "query_batch", "read_footer", "replay", "replay_into", "tile_offsets", "tile_ranges",
+    "tile_sizes", "tile_sums", "tile_values", "tree_length", "var_tile_offsets", "write_tree", "write_tree_into",
 ]
 
 __version__ = "0.2.0"
@@ -905,7 +906,7 @@ def box_test(description: Description, box: Bytes, window: Union[Window, Iterabl
 
 
 class Tree:
-    """An opened tree: `tiles`, `fanout`, `levels`, `query` and `query_batch`. `open_tree` makes it.
+    """An opened tree: `tiles`, `fanout`, `levels`, `query`, `query_batch` and `replay`. `open_tree` makes it.
 
     It keeps hold of the tree's bytes for as long as it lives, with no copy. They must stay as they are: a query does not check
     them again.
@@ -930,6 +931,10 @@ class Tree:
     def query_batch(self, windows: Windows, room: Optional[SupportsIndex] = None) -> list[Union[Hit, Refused]]:
         """Which tiles does each window touch? As the function `query_batch`, on this tree."""
         return _ask_batch(self.description, self.tiles, self._lent, windows, room)
+
+    def replay(self, log: Bytes) -> bytes:
+        """Asks every query of a log again. As the function `replay`, on this tree."""
+        return _replay.replayed(self.description, self.tiles, self._lent, log)
 
 
 def open_tree(description: Description, file_size: SupportsIndex, footer: Bytes, tree: Bytes) -> Tree:
@@ -1174,9 +1179,11 @@ def write_tree_into(
             return _write(description, _limited(tiles), _limited(fanout), lent, room)
 
 
-# ---- listings, and what is known of a tile's values: modules that stand on what is above, so these lines come last
+# ---- listings, what is known of a tile's values, logs of queries: modules that stand on what is above, so they come last
 
+from tussockbell import _replay  # noqa: E402
 from tussockbell._committed import Committed, committed  # noqa: E402
+from tussockbell._replay import log_line, replay, replay_into  # noqa: E402
 from tussockbell._values import (  # noqa: E402
     NullCounts, TileRanges, TileSums, TileValues, VarValues, null_counts, tile_ranges, tile_sums, tile_values,
 )

@@ -11,6 +11,11 @@ were looked at; then tile, offset, extent and cells of each tile that it touches
 
 draws two dimensions of the tree and the tiles that the window touches.
 
+    python3 -m tussockbell replay --kinds int32,int64 --fields 3 --capacity 1000 --file-size 40960 FOOTER TREE LOG
+
+asks the queries of a log again, and prints for each whether its answer is the logged one; a line that differs or is bad
+gives exit status 1, and `--quiet` prints only such lines.
+
     python3 -m tussockbell committed LISTING --time 1700000000000
 
 prints the names of the committed folders of a listing that are no later than a time, one a line.
@@ -32,7 +37,7 @@ import sys
 from typing import Any, BinaryIO, NoReturn, Optional, TextIO, Union
 
 import tussockbell as tb
-from tussockbell import _committed, _picture
+from tussockbell import _committed, _picture, _replay
 
 _REFUSED, _FAILED = 1, 2
 
@@ -108,27 +113,29 @@ def _arguments(words: list[str]) -> argparse.Namespace:
         allow_abbrev=False,
     )
     parser.add_argument("--version", action="version", version=f"tussockbell {tb.__version__}")
-    commands = parser.add_subparsers(dest="command", required=True, metavar="query|plot|committed")
+    commands = parser.add_subparsers(dest="command", required=True, metavar="query|plot|replay|committed")
     asked = _Parser(add_help=False, allow_abbrev=False)
     asked.add_argument("--kinds", required=True, help="a kind for each dimension, as int32,float64")
     asked.add_argument("--fields", required=True, type=int, metavar="N", help="entries in each per-field list")
     asked.add_argument("--capacity", required=True, type=int, metavar="C", help="cells of a full tile")
     asked.add_argument("--file-size", required=True, type=int, metavar="F", help="bytes of the whole metadata file")
-    asked.add_argument(
+    windowed = _Parser(add_help=False, allow_abbrev=False, parents=[asked])
+    windowed.add_argument(
         "--window", required=True, type=_window, metavar="LOW:HIGH,..",
         help="minimum and maximum of each dimension, both inside; inf and -inf leave a float dimension open",
     )
     query = commands.add_parser(
-        "query", parents=[asked], allow_abbrev=False, help="list the tiles, with offset, extent and cells of each",
+        "query", parents=[windowed], allow_abbrev=False, help="list the tiles, with offset, extent and cells of each",
     )
     query.add_argument("--data-size", required=True, type=int, metavar="S", help="bytes of the data file")
-    plot = commands.add_parser("plot", parents=[asked], allow_abbrev=False, help="draw two dimensions of the tree")
+    plot = commands.add_parser("plot", parents=[windowed], allow_abbrev=False, help="draw two dimensions of the tree")
     plot.add_argument("--out", required=True, metavar="FILE.svg", help="where the picture goes")
     plot.add_argument("--axes", type=_axes, default=(0, 1), metavar="I,J", help="the dimensions drawn (0,1)")
     for command in (query, plot):
         command.add_argument("footer", metavar="FOOTER", help="the footer's bytes")
         command.add_argument("tree", metavar="TREE", help="the R-tree body's bytes")
     query.add_argument("offsets", metavar="OFFSETS", help="the bytes of the list of tile offsets")
+    _replay.add_command(commands, asked)
     _committed.add_command(commands)
     # A window may start with a minus, which would else count as an option's.
     joined: list[str] = []
@@ -198,15 +205,18 @@ def _plot(asked: argparse.Namespace, description: tb.Description) -> None:
         raise ValueError(f"{asked.out}: {error.strerror}") from None
 
 
-def _answer(words: Optional[list[str]]) -> None:
-    """Answers a command on standard output, with all of it written."""
+def _answer(words: Optional[list[str]]) -> int:
+    """Answers a command on standard output, with all of it written, and tells the exit status."""
     try:
         asked: Any = _arguments(sys.argv[1:] if words is None else words)
         if asked.command == "committed":
             _committed.run(asked, _read, _write)
-        else:
-            description = tb.Description(asked.kinds.split(","), asked.fields, asked.capacity)
-            {"query": _query, "plot": _plot}[asked.command](asked, description)
+            return 0
+        description = tb.Description(asked.kinds.split(","), asked.fields, asked.capacity)
+        if asked.command == "replay":
+            return _replay.run_command(asked, description, _read, _write)
+        {"query": _query, "plot": _plot}[asked.command](asked, description)
+        return 0
     finally:
         if sys.stdout is not None:
             sys.stdout.flush()
@@ -214,7 +224,7 @@ def _answer(words: Optional[list[str]]) -> None:
 
 def main(words: Optional[list[str]] = None) -> int:
     try:
-        _answer(words)
+        return _answer(words)
     except tb.Refused as refused:
         _say(str(refused))
         return _REFUSED
@@ -227,7 +237,6 @@ def main(words: Optional[list[str]] = None) -> int:
     except Exception as error:
         _say(str(error) if isinstance(error, ValueError) else f"{type(error).__name__}: {error}")
         return _FAILED
-    return 0
 
 
 if __name__ == "__main__":

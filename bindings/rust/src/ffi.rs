@@ -9,7 +9,7 @@
 use crate::batch::Record;
 use crate::places::{
     BATCH_PLACES, BOX_TEST_PLACES, COMMITTED_PLACES, EXTENT_PLACES, FOOTER_PLACES, NAME_PLACES, OFFSETS_PLACES,
-    OPEN_PLACES, PARTS_PLACES, QUERY_PLACES, RECORD_PLACES, SIZES_PLACES, WRITE_PLACES,
+    OPEN_PLACES, PARTS_PLACES, QUERY_PLACES, RECORD_PLACES, REPLAY_PLACES, SIZES_PLACES, WRITE_PLACES,
 };
 use crate::{Description, Kind};
 
@@ -395,5 +395,36 @@ pub(crate) fn null_counts(asked: Asked, body: &[u8]) -> [u64; NULL_COUNTS_PLACES
     let mut answer = [0; NULL_COUNTS_PLACES];
     // SAFETY: pointers and lengths of slices, and an answer array of the header's places.
     unsafe { with_footer!(tussockbell_null_counts, asked, body.as_ptr(), body.len(), answer.as_mut_ptr()) };
+    answer
+}
+
+// ---- logs of queries
+
+#[rustfmt::skip] // as above
+extern "C" {
+    fn tussockbell_replay(kinds: *const u8, kinds_length: usize, fields: u64, capacity: u64, tiles: u64,
+                          tree: *const u8, tree_length: usize, log: *const u8, log_length: usize, out: *mut u8,
+                          out_length: usize, answer: *mut u64);
+}
+
+pub(crate) fn replay(d: &Description, tiles: u64, tree: &[u8], log: &[u8], out: &mut [u8]) -> [u64; REPLAY_PLACES] {
+    let mut answer = [0; REPLAY_PLACES];
+    // SAFETY: pointers and lengths of slices, an answer array of the header's places, and a buffer lent to nobody else.
+    unsafe {
+        tussockbell_replay(
+            bytes(d.kinds),
+            d.kinds.len(),
+            d.fields,
+            d.capacity,
+            tiles,
+            tree.as_ptr(),
+            tree.len(),
+            log.as_ptr(),
+            log.len(),
+            out.as_mut_ptr(),
+            out.len(),
+            answer.as_mut_ptr(),
+        )
+    };
     answer
 }

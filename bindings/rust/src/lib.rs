@@ -15,6 +15,7 @@
 //! - [`write_tree`] writes an R-tree from its leaf boxes, and [`tree_length`] tells how many bytes it has.
 //! - [`committed`] tells which folders of a listing are committed.
 //! - [`report`] writes the report of four files as text.
+//! - [`replay`] asks the queries of a log again, and writes which answers are the logged ones.
 //!
 //! Every function takes any input. Bad input is [`Refused`], with a number and a place, and a result buffer then holds
 //! what it held before. Trees and lists are the bodies of their generic tiles, already unfiltered.
@@ -54,6 +55,7 @@ mod parts;
 mod places;
 mod ranges;
 mod refused;
+mod replay;
 mod tree;
 mod values;
 mod write;
@@ -65,6 +67,7 @@ pub use lists::{tile_offsets, tile_sizes, var_tile_offsets, Extent, TileOffsets}
 pub use parts::{Opened, TreeParts};
 pub use ranges::{Description, Kind, Range};
 pub use refused::{Refused, Which};
+pub use replay::{replay, REPLAY_LINE};
 pub use tree::{box_test, open_tree, query, Answer, Tested, Tree};
 pub use values::{null_counts, tile_ranges, tile_sums, tile_values, var_tile_ranges, var_tile_values};
 pub use values::{NullCounts, TileRanges, TileSums, TileValues, Value, VarValues};

@@ -82,4 +82,6 @@ places! {
     WRITE_PLACES = 3;
     COMMITTED_FOUND = 2;
     COMMITTED_PLACES = 3;
+    REPLAY_LENGTH = 2;
+    REPLAY_PLACES = 3;
 }

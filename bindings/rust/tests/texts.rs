@@ -62,6 +62,7 @@ fn places_are_the_headers() {
     // one tile of a pair is asked for with no check of the bodies
     places.extend([("RANGE_MIN", 0), ("RANGE_MAX", 1), ("RANGE_PLACES", 2)]);
     places.insert("REPORT_MOST", tussockbell::REPORT_MOST as u64);
+    places.insert("REPLAY_LINE", tussockbell::REPLAY_LINE as u64);
     assert_eq!(part(|name| !is_kind(name) && !is_refusal(name) && !is_limit(name)), places);
 }
 

@@ -45,7 +45,7 @@ const FOOTER_TILES: usize = 6;
 const FOOTER_LAST_CELLS: usize = 7;
 
 /// Bytes to lend: where they are, or a copy between guard pages.
-fn lend(data: &[u8], space: &mut Option<&mut Space>) -> *const u8 {
+pub fn lend(data: &[u8], space: &mut Option<&mut Space>) -> *const u8 {
     match space {
         Some(space) => {
             let place = space.lend(data.len());

@@ -7,9 +7,11 @@
 //!     differential parts [INPUTS] [SEED]
 //!     differential values [INPUTS] [SEED]
 //!     differential committed [INPUTS] [SEED]
+//!     differential replay [INPUTS] [SEED]
 //!
 //! The second compares whole trees and lists of so many tiles, or of as many as there may be. The third compares bodies that arrive in parts, the
-//! fourth mins, maxes, sums and null counts, the fifth listings.
+//! fourth mins, maxes, sums and null counts, the fifth listings, the
+//! sixth logs that are replayed.
 //!
 //! Every number of every answer and every place of every buffer is compared, the ones that must stay as they were too. Some of the inputs are lent
 //! from pages with unreadable pages on both sides.
@@ -21,6 +23,7 @@ mod library;
 mod listing;
 mod many;
 mod parts;
+mod replay;
 mod right;
 mod rules;
 mod values;
@@ -126,8 +129,9 @@ impl Tally {
 }
 
 fn main() {
-    let compare: [(&str, fn(u64, u64)); 3] =
-        [("parts", parts::compare), ("values", values::compare), ("committed", committed::compare)];
+    let compare: [(&str, fn(u64, u64)); 4] = [
+        ("parts", parts::compare), ("values", values::compare), ("committed", committed::compare), ("replay", replay::compare),
+    ];
     if let Some((_, compare)) = compare.iter().find(|(name, _)| std::env::args().nth(1).is_some_and(|a| a == *name)) {
         let numbers: Vec<u64> = std::env::args().skip(2).map(|a| a.parse().expect("a number")).collect();
         return compare(numbers.first().copied().unwrap_or(200_000), numbers.get(1).copied().unwrap_or(20_261_116));

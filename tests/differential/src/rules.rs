@@ -652,7 +652,7 @@ pub fn sizes(n: u64, data: &[u8]) -> Answer<u64> {
 }
 
 /// A decimal number: no leading zeros, a minus only before a nonzero number.
-fn decimal(line: &[u8]) -> Option<i128> {
+pub fn decimal(line: &[u8]) -> Option<i128> {
     let (minus, digits) = match line.strip_prefix(b"-") {
         Some(rest) => (true, rest),
         None => (false, line),
