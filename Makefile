@@ -13,7 +13,7 @@ SONAME := libtussockbell.so.$(basename $(basename $(VERSION)))
 PREFIX ?= /usr/local
 INSTALL ?= install
 
-.PHONY: help report lib install test test-large bench clean
+.PHONY: help report lib install test test-large test-old soak-widening bench clean
 
 help:
 	@printf '%s\n' \
@@ -22,6 +22,8 @@ help:
 	    'make install  the libraries, the header and a pkg-config file below PREFIX=/usr/local' \
 	    'make test     prove every crate, try the must-fail edits, run the programs and the other tests' \
 	    'make test-large  compare trees and lists of 16,777,216 tiles with the rules; takes 1 GB of memory' \
+	    'make test-old  build the version before float32 was retired, and compare its answers with those of converted trees' \
+	    'make soak-widening  every finite float32 pattern through the converter, against the C compiler; some minutes' \
 	    'make bench    measure the library beside plain Rust and two R-tree libraries; writes docs/BENCHMARKS.md' \
 	    'make clean    remove all that was made here' \
 	    'The Python package: pip install bindings/python, after make lib or without it.'
@@ -34,7 +36,7 @@ report:
 
 # The crates that export C functions. Each is an object of its own, in which only the exported names are seen. Each
 # function starts at a multiple of 32 bytes, so that its speed does not hang on what stands before it.
-EXPORTS := c_footer c_cells c_lists c_values c_values_at c_counts c_open c_query c_box_test c_writer c_commits c_replay c_report
+EXPORTS := c_footer c_cells c_lists c_values c_values_at c_counts c_open c_query c_box_test c_writer c_convert c_commits c_replay c_report
 
 # Made anew where a file that the proofs or the code rest on is newer; what the prover says goes to build/lib.log, and
 # what it says of each exporting crate to a log of its own. One after the other: of two at once, each may find a crate that
@@ -71,6 +73,14 @@ test:
 
 test-large:
 	@INPUTS=0 TILES=16777216 tests/differential/run
+
+test-old:
+	@tests/old/compare
+
+soak-widening: lib
+	@gcc -O2 -std=c11 -Wall -Wextra -Werror -pedantic -Iinclude -o build/soak-widening tests/soak/widening.c \
+	    build/libtussockbell.a
+	@time build/soak-widening
 
 bench:
 	@bench/run

@@ -15,7 +15,9 @@ PEERS = {"rust": "plain Rust", "boost": "Boost.Geometry", "libspatialindex": "li
 OWN = {"whole": "opening the whole", "single": "single calls", "queries": "single queries"}
 BLOCKS = (4_096, 65_536, 1_048_576)
 COLOURS = {"ours": "#1d4ed8", "rust": "#d97706", "boost": "#047857", "libspatialindex": "#7c3aed"}
-KINDS = ["int32", "int64", "float32", "float64", "uint64", "mix"]
+# Of dimensions, and of a field's values.
+KINDS = ["int32", "int64", "float64", "uint64", "mix"]
+VALUE_KINDS = ["int32", "int64", "float32", "float64", "uint64"]
 FANOUTS = ["2", "10", "16", "1024"]
 # What is done to a body of mins or maxes, and how that is called.
 VALUES = {"check and read": "checked, and all values read", "check together": "checked together"}
@@ -73,14 +75,15 @@ def groups(ratios, pictured=False):
     by_kind = [("rust", f"query, {kind}", of("rust", "query", kind)) for kind in KINDS]
     made = by_fanout["rust"] + ([] if pictured else by_kind)
     made += [] if pictured else [("rust", "query, up to 16,777,216 tiles", of("rust", "more tiles"))]
-    made += [("rust", "opening", of("rust", "open")), ("rust", "writing", of("rust", "write"))]
+    made += [("rust", "opening", of("rust", "open")), ("rust", "writing", of("rust", "write")), ("rust", "converting", of("rust", "convert"))]
+    made += [] if pictured else [("rust", f"converting, {kind}", of("rust", "convert", kind)) for kind in ("float32", "mix")]
     made += [] if pictured else [("rust", f"opening, {kind}", of("rust", "open", kind)) for kind in KINDS]
     made += [("rust", "lists", [*of("rust", "offsets"), *of("rust", "var offsets"), *of("rust", "sizes")])]
     made += [] if pictured else [("rust", "a tree in blocks", of("rust", "parts"))]
     made += [] if pictured else [("rust", "committed folders of a listing", of("rust", "committed", "ordinary"))]
     if not pictured:
         made += [("rust", f"mins and maxes, {name}", of("rust", "values", what)) for what, name in VALUES.items()]
-        made += [("rust", f"mins and maxes, {kind}", of("rust", "values", kind)) for kind in [*KINDS[:-1], "var"]]
+        made += [("rust", f"mins and maxes, {kind}", of("rust", "values", kind)) for kind in [*VALUE_KINDS, "var"]]
         made += [("rust", "sums and null counts", [*of("rust", "values", "sums"), *of("rust", "values", "null counts")])]
     for peer in ("boost", "libspatialindex"):
         made += [(peer, f"query, {size} windows", of(peer, "query", size)) for size in ("small", "large")]
@@ -132,6 +135,14 @@ def pair_table(names, rows, per):
         known = [f"{float(row[name]):,.0f}" if name in ("bytes", "looked") else row[name] for name in names]
         made.append([*known, *[short(row[name]) for name in times], short(float(row["ours ns"]) / float(row["rust ns"]))])
     return table(header, made)
+
+
+def convert_table(rows):
+    """As the pairs are, with the time of the check alone."""
+    known = {"kind": "Kind", "D": "D", "f": "f", "n": "n", "bytes": "Bytes"}
+    lines = pair_table(known, rows, "byte").split("\n")
+    more = ["Check", "--:", *[short(row["check ns"]) for row in rows]]
+    return "\n".join(f"{line} {cell} |" for line, cell in zip(lines, more, strict=True))
 
 
 def batch_table(rows):
@@ -228,7 +239,7 @@ def page(tables, ratios):
     how = prose(f"""
         - **Data.** Random hits in a cube of 1 to 4 dimensions, sorted along a Morton curve and cut into n tiles of 8 hits. Boxes have
           coordinates on a grid of 2^20 steps a dimension, which each kind holds exactly; floats are in quarters, and uint64 counts from the grid's first step. `mix` is
-          float64, int32, float32 and int64, as many of them as there are dimensions.
+          float64, int32, uint64 and int64, as many of them as there are dimensions.
 
         - **Windows.** {run["small windows"]} small ones, each 4 / n of the cube, so many that no branch predictor learns them by heart;
           {run["large windows"]} large ones, each a tenth of the cube. A time is the mean over all windows of a size.
@@ -293,6 +304,11 @@ def page(tables, ratios):
             with the columns' names before each table's rows. Found and looked are means a query; times are a query's, an opening's (footer
             and tree together, every box checked), a written tree's (its leaves checked too) or a list's. A row `ratio` has a case and our time divided by theirs.
             """),
+        "## Old trees converted",
+        prose("""A footer and a tree of float32 dimensions, or of float64, int32, float32 and int64 (mix), checked as opening did when float32 was
+            a kind like the others, and written with float64 in its place. Bytes are those read and those written. The last column is the check
+            by itself, `tussockbell_convert_length`."""),
+        convert_table(tables["convert"]),
         "## Lists",
         prose("Checking tile offsets, checking var offsets, and checking and adding up tile sizes."),
         pair_table({"list": "List", "n": "n"}, tables["list"], "entry"),

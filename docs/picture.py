@@ -16,7 +16,7 @@ import pieces
 import rules
 from tussockbell.__main__ import main
 
-KINDS = ["float32", "float32"]
+KINDS = ["float64", "float64"]
 CAPACITY, FANOUT, WINDOW = 40, 10, "12:34,-6:21"
 
 

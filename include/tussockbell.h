@@ -1,5 +1,6 @@
 /* Tussockbell for C and C++: the footer and the R-tree of a TileDB fragment's metadata, tile offsets, var offsets and
- * tile sizes, mins, maxes, sums and null counts; and R-trees written from their leaves.
+ * tile sizes, mins, maxes, sums and null counts; R-trees written from their leaves; and footers and R-trees of float32
+ * dimensions converted to float64.
  *
  * Every function takes any input and writes every place of its answer array; none keeps a pointer. A byte string is a
  * pointer and a length. With length 0 nothing is read or written through the pointer, which may then be null. A pointer
@@ -8,15 +9,18 @@
  *
  * A description is `kinds`, one kind number for each dimension; `fields`, the entries of each per-field list; and
  * `capacity`, the cells of a full tile. A number that is no kind, and a number of kinds outside the limits, is refused
- * like any other number outside the limits, with TUSSOCKBELL_REFUSED_DESCRIPTION at place 0.
+ * like any other number outside the limits, with TUSSOCKBELL_REFUSED_DESCRIPTION at place 0. float32 is a kind, but no
+ * dimension may have it any more: a description that is else within the limits is then refused with
+ * TUSSOCKBELL_REFUSED_RETIRED at the first such dimension, from 0, directly after that check. Only
+ * tussockbell_convert, tussockbell_convert_length and tussockbell_convert_footer take it as it was taken before.
  *
- * An answer's first two places are the refusal's number, 0 for none, and its place in the bytes that were lent;
- * where the refusal is about a window's side, the place is its dimension, from 0, and where it is about a listing, the
- * line, from 0. After a refusal every other number is 0 unless a comment says otherwise. The answers of
+ * An answer's first two places are the refusal's number, 0 for none, and its place in the bytes that were lent; where
+ * the refusal is about a window's side or a retired kind, the place is its dimension, from 0, and where it is about a
+ * listing, the line, from 0. After a refusal every other number is 0 unless a comment says otherwise. The answers of
  * tussockbell_schema_name, tussockbell_extent, tussockbell_var_extent, tussockbell_extent_at, tussockbell_range,
  * tussockbell_var_value and tussockbell_var_value_at hold no refusal, and neither do the numbers that a function
- * returns; tussockbell_footer, tussockbell_offsets, tussockbell_var_offsets, tussockbell_values and the like say whether
- * a footer, a list or a body is refused, and why. */
+ * returns; tussockbell_footer, tussockbell_offsets, tussockbell_var_offsets, tussockbell_values and the like say
+ * whether a footer, a list or a body is refused, and why. */
 #ifndef TUSSOCKBELL_H
 #define TUSSOCKBELL_H
 
@@ -28,9 +32,9 @@ extern "C" {
 #endif
 
 /* The version that this header is of. */
-#define TUSSOCKBELL_VERSION "0.2.0"
-#define TUSSOCKBELL_VERSION_MAJOR 0
-#define TUSSOCKBELL_VERSION_MINOR 2
+#define TUSSOCKBELL_VERSION "1.0.0"
+#define TUSSOCKBELL_VERSION_MAJOR 1
+#define TUSSOCKBELL_VERSION_MINOR 0
 #define TUSSOCKBELL_VERSION_PATCH 0
 
 /* Kinds: TileDB's own Datatype numbers. */
@@ -85,6 +89,7 @@ extern "C" {
 #define TUSSOCKBELL_REFUSED_REPEATED 25
 #define TUSSOCKBELL_REFUSED_ROOM 26
 #define TUSSOCKBELL_REFUSED_NULL_COUNT 27
+#define TUSSOCKBELL_REFUSED_RETIRED 28
 
 /* The text of a refusal number. */
 static inline const char *tussockbell_refusal_text(uint64_t number)
@@ -146,6 +151,8 @@ static inline const char *tussockbell_refusal_text(uint64_t number)
         return "the output buffer is too short";
     case TUSSOCKBELL_REFUSED_NULL_COUNT:
         return "a null count above its tile's cells";
+    case TUSSOCKBELL_REFUSED_RETIRED:
+        return "a dimension of kind float32, which is retired";
     default:
         return "no refusal number";
     }
@@ -237,6 +244,12 @@ static inline const char *tussockbell_refusal_text(uint64_t number)
 /* tussockbell_write_tree and tussockbell_tree_length */
 #define TUSSOCKBELL_WRITE_LENGTH 2
 #define TUSSOCKBELL_WRITE_PLACES 3
+
+/* tussockbell_convert, tussockbell_convert_length and tussockbell_convert_footer. WHICH: 0 where the place counts in the
+ * footer or in neither, 1 where it counts in the tree. */
+#define TUSSOCKBELL_CONVERT_WHICH 2
+#define TUSSOCKBELL_CONVERT_LENGTH 3
+#define TUSSOCKBELL_CONVERT_PLACES 4
 
 /* tussockbell_committed. Its refusals are placed at a line, from 0. */
 #define TUSSOCKBELL_COMMITTED_FOUND 2
@@ -472,6 +485,34 @@ void tussockbell_write_tree(const uint8_t *kinds, size_t kinds_length, uint64_t 
 /* The length in bytes of a tree of so many tiles with this fanout: the room that tussockbell_write_tree asks for. */
 void tussockbell_tree_length(const uint8_t *kinds, size_t kinds_length, uint64_t fields, uint64_t capacity, uint64_t tiles,
                              uint64_t fanout, uint64_t *answer /* [TUSSOCKBELL_WRITE_PLACES] */);
+
+/* Writes an old tree with its float32 ranges as float64 to the start of `out`: the same fanout, levels and counts, each
+ * box side by side, the ranges of other kinds byte by byte; without a float32 dimension it is a copy. `kinds` has the
+ * old kinds. Footer and tree are accepted, and refused, as tussockbell_open did when float32 was a kind like the others;
+ * then TUSSOCKBELL_REFUSED_ROOM at 0 says that `out` is shorter than what is written. The answer has the length in
+ * bytes; bytes of `out` past it stay, and all of them where the call is refused.
+ *
+ * The widened description has TUSSOCKBELL_FLOAT64 for each TUSSOCKBELL_FLOAT32, and is else the same. Under it the tree
+ * is accepted with every accepted footer of that number of tiles whose domain holds the first box, and a query that was
+ * not refused before, its float32 ends cast to double, has the same answer with the same buffer. An end that was
+ * rounded to float for the old query is rounded so before it is cast: asked with the double 0.1 the tree may lose tiles
+ * that the float 0.1f, which is above it, touches. Time and memory: linear, and none but `out`. */
+void tussockbell_convert(const uint8_t *kinds, size_t kinds_length, uint64_t fields, uint64_t capacity, uint64_t file_size,
+                         const uint8_t *footer, size_t footer_length, const uint8_t *tree, size_t tree_length, uint8_t *out,
+                         size_t out_length, uint64_t *answer /* [TUSSOCKBELL_CONVERT_PLACES] */);
+
+/* What tussockbell_convert answers where there is room, and so the room that it asks for. */
+void tussockbell_convert_length(const uint8_t *kinds, size_t kinds_length, uint64_t fields, uint64_t capacity,
+                                uint64_t file_size, const uint8_t *footer, size_t footer_length, const uint8_t *tree,
+                                size_t tree_length, uint64_t *answer /* [TUSSOCKBELL_CONVERT_PLACES] */);
+
+/* Writes an old footer with the float32 ranges of its domain as float64, and with the new length in its length field, to
+ * the start of `out`; every other byte stays. It is refused as tussockbell_footer did when float32 was a kind like the
+ * others, and then for room as tussockbell_convert is. What it writes, 8 bytes more for each float32 dimension, is
+ * accepted under the widened description with a `file_size` that is as many bytes larger, where that is below 2^64. */
+void tussockbell_convert_footer(const uint8_t *kinds, size_t kinds_length, uint64_t fields, uint64_t capacity,
+                                uint64_t file_size, const uint8_t *footer, size_t footer_length, uint8_t *out,
+                                size_t out_length, uint64_t *answer /* [TUSSOCKBELL_CONVERT_PLACES] */);
 
 /* Which folders of a listing are committed, and no later than a reading time? A listing has one record a line, at most
  * 1,024 of at most 255 bytes, each ended by one newline, which the last may lack: a kind, a tab and a name. Kinds are

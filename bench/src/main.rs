@@ -7,6 +7,7 @@
 //! `ratio`, case, and ours / theirs, where below 1 is faster.
 
 mod committed;
+mod convert;
 mod data;
 mod peers;
 mod plain;
@@ -30,7 +31,7 @@ const GROWING_FANOUTS: [usize; 3] = [2, 16, 1024];
 /// Past these libspatialindex, which has an object for each box, takes too much memory, and Boost is built at one capacity.
 const MOST_FOR_PEERS: usize = 1_000_000;
 const BOOST_PAST: [usize; 1] = [16];
-const MIX: [Kind; 4] = [Kind::Float64, Kind::Int32, Kind::Float32, Kind::Int64];
+const MIX: [Kind; 4] = [Kind::Float64, Kind::Int32, Kind::Uint64, Kind::Int64];
 /// So many small windows that their branches can't be learnt by heart.
 const SMALL: usize = 1024;
 const LARGE: usize = 32;
@@ -45,7 +46,7 @@ const TRIALS: usize = 3;
 /// A tree in parts comes in blocks of these sizes.
 const BLOCKS: [usize; 3] = [4_096, 65_536, 1_048_576];
 
-const TABLES: [(&str, &str); 13] = [
+const TABLES: [(&str, &str); 14] = [
     ("run", "rounds\tleast us\ttrials\tsmall windows\tlarge windows\tboost capacities\tlibspatialindex capacities"),
     (
         "query",
@@ -54,6 +55,7 @@ const TABLES: [(&str, &str); 13] = [
     ),
     ("open", "kind\tD\tf\tn\tbytes\tours ns\tours ns/byte\trust ns\trust ns/byte"),
     ("write", "kind\tD\tf\tn\tbytes\tours ns\tours ns/byte\trust ns\trust ns/byte"),
+    ("convert", "kind\tD\tf\tn\tbytes\tours ns\tours ns/byte\trust ns\trust ns/byte\tcheck ns"),
     ("list", "list\tn\tours ns\tours ns/entry\trust ns\trust ns/entry"),
     ("looks", "looked\tours ns\tours ns/box\trust ns\trust ns/box"),
     (
@@ -548,7 +550,7 @@ fn main() {
     for dimensions in 1..=4 {
         for tiles in TILES {
             let leaves = data::leaves(dimensions, tiles);
-            let single = Kind::ALL.map(|kind| vec![kind; dimensions]);
+            let single = Kind::OF_DIMENSIONS.map(|kind| vec![kind; dimensions]);
             let mix = (dimensions > 1).then(|| MIX[..dimensions].to_vec());
             for kinds in single.into_iter().chain(mix).filter(|kinds| described(kinds).starts_with(only)) {
                 eprintln!("bench: {} D={dimensions} n={tiles}", described(&kinds));
@@ -561,6 +563,7 @@ fn main() {
             }
         }
     }
+    bench.convert_cases();
     bench.list_cases();
     bench.committed_cases();
     bench.values_cases();

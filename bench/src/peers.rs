@@ -43,7 +43,6 @@ unsafe extern "C" {
     fn tussockbell_parts_finish(state: *const u64, w: *const u8, wl: usize, answer: *mut u64);
     fn boost_make_int32(d: usize, capacity: usize, ends: *const f64, boxes: usize, window_ends: *const f64, windows: usize) -> *mut c_void;
     fn boost_make_int64(d: usize, capacity: usize, ends: *const f64, boxes: usize, window_ends: *const f64, windows: usize) -> *mut c_void;
-    fn boost_make_float32(d: usize, capacity: usize, ends: *const f64, boxes: usize, window_ends: *const f64, windows: usize) -> *mut c_void;
     fn boost_make_float64(d: usize, capacity: usize, ends: *const f64, boxes: usize, window_ends: *const f64, windows: usize) -> *mut c_void;
     fn boost_make_uint64(d: usize, capacity: usize, ends: *const f64, boxes: usize, window_ends: *const f64, windows: usize) -> *mut c_void;
     fn boost_query(tree: *const c_void, window: usize, out: *mut u32) -> usize;
@@ -172,7 +171,7 @@ impl Peer {
             match kinds[0] {
                 Kind::Int32 => boost_make_int32,
                 Kind::Int64 => boost_make_int64,
-                Kind::Float32 => boost_make_float32,
+                Kind::Float32 => unreachable!("a dimension that is asked is not float32"),
                 Kind::Float64 => boost_make_float64,
                 Kind::Uint64 => boost_make_uint64,
             }

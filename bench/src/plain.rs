@@ -1,6 +1,8 @@
 //! The library's operations as one would write them in plain Rust, to compare speeds with: the same input, the same checks, the same walk, no
 //! proofs. What goes in and comes out is what the C functions take and answer, so that one could stand in for the other.
 
+#[path = "plain_convert.rs"]
+pub mod convert;
 #[path = "plain_replay.rs"]
 pub mod replay;
 
@@ -58,6 +60,7 @@ pub mod refusal {
     pub const REPEATED: u64 = 25;
     pub const ROOM: u64 = 26;
     pub const NULL_COUNT: u64 = 27;
+    pub const RETIRED: u64 = 28;
 }
 
 #[derive(Debug, PartialEq)]
@@ -163,6 +166,8 @@ number! {
 
 impl Kind {
     pub const ALL: [Kind; 5] = [Kind::Int32, Kind::Int64, Kind::Float32, Kind::Float64, Kind::Uint64];
+    /// Those that a dimension may have.
+    pub const OF_DIMENSIONS: [Kind; 4] = [Kind::Int32, Kind::Int64, Kind::Float64, Kind::Uint64];
 
     fn of(number: u8) -> Option<Kind> {
         match number {
@@ -306,7 +311,7 @@ impl Range {
     }
 }
 
-/// A description that is inside the limits.
+/// A description that is inside the limits, and has no float32 dimension unless it is an old one.
 struct Description {
     kinds: [Kind; 4],
     dimensions: usize,
@@ -316,6 +321,15 @@ struct Description {
 
 impl Description {
     fn new(numbers: &[u8], fields: u64, capacity: u64) -> Result<Description, Refused> {
+        let d = Description::old(numbers, fields, capacity)?;
+        match d.kinds().iter().position(|kind| *kind == Kind::Float32) {
+            Some(dimension) => refuse(refusal::RETIRED, dimension),
+            None => Ok(d),
+        }
+    }
+
+    /// From before float32 was retired.
+    fn old(numbers: &[u8], fields: u64, capacity: u64) -> Result<Description, Refused> {
         if !limits::DIMENSIONS.contains(&numbers.len()) || !limits::FIELDS.contains(&fields) || !limits::CAPACITY.contains(&capacity) {
             return refuse(refusal::DESCRIPTION, 0);
         }

@@ -135,6 +135,35 @@ static void committed(const char *last, uint64_t time, size_t room)
            out[1], out[2]);
 }
 
+/* The bits of tree A as float32, from before that was retired: refused, and converted. The domain's minimum, -1, is a NaN. */
+static void convert(const uint8_t *tree, size_t length, uint8_t *footer, size_t footer_length, uint64_t size)
+{
+    const uint8_t old[1] = {TUSSOCKBELL_FLOAT32};
+    const uint8_t wide[1] = {TUSSOCKBELL_FLOAT64};
+    uint8_t out[130] = {0};
+    uint8_t new_footer[256];
+    uint64_t opened[TUSSOCKBELL_OPEN_PLACES];
+    uint64_t answer[TUSSOCKBELL_CONVERT_PLACES];
+    tussockbell_open(old, 1, 1, 32, size, footer, footer_length, tree, length, opened);
+    show("open float32", opened, TUSSOCKBELL_OPEN_PLACES);
+    printf("  %s\n", tussockbell_refusal_text(opened[TUSSOCKBELL_NUMBER]));
+    tussockbell_convert_length(old, 1, 1, 32, size, footer, footer_length, tree, length, answer);
+    show("convert with a NaN", answer, TUSSOCKBELL_CONVERT_PLACES);
+    range(footer, 20, 0, 24);
+    tussockbell_convert_length(old, 1, 1, 32, size, footer, footer_length, tree, length, answer);
+    show("converted length", answer, TUSSOCKBELL_CONVERT_PLACES);
+    tussockbell_convert(old, 1, 1, 32, size, footer, footer_length, tree, length, out, 127, answer);
+    show("convert without room", answer, TUSSOCKBELL_CONVERT_PLACES);
+    tussockbell_convert(old, 1, 1, 32, size, footer, footer_length, tree, length - 1, out, sizeof out, answer);
+    show("convert a cut tree", answer, TUSSOCKBELL_CONVERT_PLACES);
+    tussockbell_convert(old, 1, 1, 32, size, footer, footer_length, tree, length, out, sizeof out, answer);
+    show("convert", answer, TUSSOCKBELL_CONVERT_PLACES);
+    tussockbell_convert_footer(old, 1, 1, 32, size, footer, footer_length, new_footer, sizeof new_footer, answer);
+    show("convert footer", answer, TUSSOCKBELL_CONVERT_PLACES);
+    tussockbell_open(wide, 1, 1, 32, size + 8, new_footer, (size_t)answer[TUSSOCKBELL_CONVERT_LENGTH], out, 128, opened);
+    show("open float64", opened, TUSSOCKBELL_OPEN_PLACES);
+}
+
 int main(void)
 {
     uint8_t tree[80];
@@ -235,5 +264,6 @@ int main(void)
     show("nothing committed", sizes, TUSSOCKBELL_COMMITTED_PLACES);
     replay(tree, length, 3 * TUSSOCKBELL_REPLAY_LINE);
     replay(tree, length, 20);
+    convert(tree, length, footer, footer_length, size);
     return 0;
 }

@@ -79,7 +79,7 @@ class Query(unittest.TestCase):
                 words = [*options(kinds, fields, capacity, size), "--data-size", data_size, "--window", window]
                 files = [folder / name for name in ("footer", "tree", "offsets")]
                 self.assertEqual(run("query", *words, *files), (0, expected, ""), msg=folder.name)
-        self.assertEqual(set(rules.KINDS), seen)
+        self.assertEqual(set(rules.DIMENSION_KINDS), seen)
 
     def test_refusals(self):
         window = ["--window", "12:21"]

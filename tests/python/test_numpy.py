@@ -16,9 +16,9 @@ import pieces
 import rules
 import tussockbell as tb
 
-ALL_KINDS = [[kind] * dimensions for kind in rules.KINDS for dimensions in range(1, 5)]
-MIXED = [["int32", "float64"], ["float64", "int32", "int64"], ["uint64", "int64"], ["float32", "int32"]]
-MIXED += [["float64", "float32", "int32", "uint64"]]
+ALL_KINDS = [[kind] * dimensions for kind in rules.DIMENSION_KINDS for dimensions in range(1, 5)]
+MIXED = [["int32", "float64"], ["float64", "int32", "int64"], ["uint64", "int64"], ["float64", "int32"]]
+MIXED += [["float64", "int64", "int32", "uint64"]]
 LETTERS = sorted(set(np.typecodes["All"]))
 
 
@@ -158,7 +158,7 @@ class Every(Cases):
                         continue
                     for array in layouts(typed(known.leaves[0], dtype).reshape(shape)):
                         self.box(known, array, fits)
-        self.assertTrue(self.cases[True] > 2500 and self.cases[False] > 80000, msg=self.cases)
+        self.assertTrue(self.cases[True] > 2400 and self.cases[False] > 69000, msg=self.cases)
 
     def test_uint8_of_one_dimension_is_bytes(self):
         for kinds in ALL_KINDS + MIXED:
@@ -367,7 +367,7 @@ class Seen(unittest.TestCase):
     def setUp(self):
         rows = [[(10.0 * x, 10.0 * x + 9), (10.0 * y, 10.0 * y + 9)] for y in range(10) for x in range(10)]
         self.rows, self.tree = np.array(rows), {}
-        for kind in ("float64", "float32", "int64"):
+        for kind in ("float64", "int32", "int64"):
             body = pieces.tree([kind] * 2, np.array(rows).astype(kind).tolist(), 4)
             self.tree[kind] = tb.Description([kind] * 2, 1, 32), 100, body
         self.windows = np.array([[[10.0 * i, 10.0 * i + 35], [5.0, 39.0]] for i in range(4)])
@@ -396,7 +396,7 @@ class Seen(unittest.TestCase):
     def test_views_that_are_not_contiguous(self):
         self.refused("float64", np.repeat(self.many.astype("i8"), 2, 0)[::2], "'l'", "'<d'")
         self.refused("float64", np.ascontiguousarray(self.many.astype("i8")), "'l'", "'<d'")
-        self.refused("float32", np.repeat(self.many, 2, 0)[::2], "'d'", "'<f'")
+        self.refused("int32", np.repeat(self.many, 2, 0)[::2], "'d'", "'<i'")
 
     def test_records(self):
         kinds = ["int32", "float64"]
@@ -433,6 +433,16 @@ class Seen(unittest.TestCase):
             self.refused("float64", numbers)
             self.refused("float64", numbers.reshape(4, 4))
         self.refused("float64", self.windows.astype("i1").reshape(-1), "'b'")
+
+    def test_float32_windows_of_an_old_tree(self):
+        """Ends that are of float32 are rounded: as float64 they ask what the widened windows of plain numbers ask."""
+        old, tenths = tb.Description(["float32"] * 2, 1, 32), self.windows / 10
+        _, n, body = self.tree["float64"]
+        widened = [old.widen(window) for window in tenths.tolist()]
+        self.assertNotEqual(tenths.tolist(), tenths.astype("<f4").astype("<f8").tolist())
+        given = (old.widened(), n, body)
+        self.assertEqual(tb.query_batch(*given, tenths.astype("<f4").astype("<f8")), tb.query_batch(*given, widened))
+        self.assertEqual(tb.query_batch(old, n, body, tenths.astype("<f4")), [tb.Refused(28, 0)] * 4)
 
     def test_dates(self):
         self.refused("int64", self.windows.astype("i8").view("M8[s]"), "ndarray")

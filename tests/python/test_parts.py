@@ -222,7 +222,7 @@ class Drawn(unittest.TestCase):
     def test_random_trees_and_cuts(self):
         chance = random.Random(20261116)
         for _ in range(1500):
-            kinds = [chance.choice(list(rules.KINDS)) for _ in range(chance.randrange(1, 5))]
+            kinds = [chance.choice(rules.DIMENSION_KINDS) for _ in range(chance.randrange(1, 5))]
             n, f = chance.randrange(1, 40), chance.randrange(2, 9)
             leaves = [[(low, low + chance.randrange(5)) for low in [chance.randrange(50)] for _ in kinds] for _ in range(n)]
             known = rules.Description(kinds, 1, 32)

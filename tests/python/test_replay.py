@@ -123,7 +123,7 @@ class Replay(unittest.TestCase):
         self.assertIn(b"differs", self.same(kinds, 9, tree, longest))
 
     def test_a_float_dimension(self):
-        for kinds in (["float32"], ["float64"], ["int32", "float64"]):
+        for kinds in (["float64"], ["int32", "float64"]):
             tree, _ = tree_of(kinds)
             self.bad(kinds, 9, tree, b"\t".join([b"1"] * (2 * len(kinds)) + [b"0", b"1"]) + b"\n" + LOG)
 

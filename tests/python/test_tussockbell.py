@@ -58,7 +58,7 @@ def footer_numbers(description, file_size, data):
 
 
 def expected_footer_numbers(known, file_size, data):
-    footer = rules.footer(known, file_size, data)
+    footer = rules.footer(known, min(max(file_size, 0), MOST), data)
     last, tiles = footer.pop("last_cells"), footer["tiles"]
     footer.update(schema_name=bytes(footer.pop("name")), last_tile_cells=last)
     footer["total_cells"] = rules.total_cells(tiles, last, known.capacity)
@@ -104,13 +104,15 @@ class Fragment:
 
     def damaged(self, data):
         """Other bytes: some changed, some left off, some added, or the same."""
-        way = self.chance.randrange(5)
+        way = self.chance.randrange(6)
         at = self.chance.randrange(len(data))
         if way == 0:
             return data[:at]
         if way == 1:
             return data + bytes(self.chance.randrange(1, 9))
         changed = bytearray(data)
+        if way == 5:  # a NaN, where it falls on an end
+            changed[at : at + 8] = b"\xff" * len(changed[at : at + 8])
         if way < 4:
             for _ in range(way - 1):
                 changed[min(self.chance.randrange(len(data)) for _ in (0, 1))] = self.chance.choice((0, 1, 2, 127, 128, 255))
@@ -164,7 +166,7 @@ def known_of(description):
 
 
 def random_fragment(chance):
-    kinds = [chance.choice(list(rules.KINDS)) for _ in range(chance.randrange(1, 5))]
+    kinds = [chance.choice(rules.DIMENSION_KINDS) for _ in range(chance.randrange(1, 5))]
     return Fragment(kinds, chance.randrange(1, 30), chance.randrange(2, 7), chance.randrange(1, 4), chance)
 
 
@@ -296,8 +298,8 @@ class Generated(Same):
         self.assertLessEqual({2, 8, 9, 19}, self.refusals)
 
     def test_first_miss(self):
-        for kind, known in rules.KINDS.items():
-            zero = pieces.origin(kind)
+        for kind in rules.DIMENSION_KINDS:
+            known, zero = rules.KINDS[kind], pieces.origin(kind)
             above, below = (zero + 20, zero + 30), (zero - 30, zero - 20)
             ends = [above, below] + [(math.nan, 5), (5, math.nan)] * (not known.whole)
             for dimensions in range(1, 5):
@@ -312,7 +314,7 @@ class Generated(Same):
 
     def test_stored_infinities(self):
         """In the domain and in every box, at either end of each dimension, in order, reversed and beside a NaN. Asked as it is, the tree is walked."""
-        kinds, inf, nan = ["float32", "float64"], math.inf, math.nan
+        kinds, inf, nan = ["float64", "float64"], math.inf, math.nan
         known, given = (make(kinds, 1, 32) for make in (rules.Description, tb.Description))
         body = pieces.tree(kinds, [[(float(i), i + 1.5), (-float(i), 2.0 * i)] for i in range(5)], 2)
         wide, window = [(-100.0, 100.0)] * 2, [(0.0, 2.0), (-inf, inf)]
@@ -324,8 +326,8 @@ class Generated(Same):
                 domain = pieces.Footer(known, wide[:side] + [(low, high)] + wide[side + 1 :], tiles=5)
                 self.same_footer(given, known, domain.file_size, domain.data())
                 self.same_tree(given, known, domain.file_size, domain.data(), body)
-                for box in (start + 24 * k for start, count in zip(starts, counts) for k in range(count)):
-                    at = box + 8 * side
+                for box in (start + 32 * k for start, count in zip(starts, counts) for k in range(count)):
+                    at = box + 16 * side
                     bad = changed(body, at, pieces.box([kind], [(low, high)]))
                     self.assertEqual(outcome(opened, given, foot.file_size, foot.data(), bad), ("refused", number, at, 1))
                     self.same_tree(given, known, foot.file_size, foot.data(), bad)
@@ -637,8 +639,10 @@ class Refusals(unittest.TestCase):
     def test_each_number(self):
         """Each refusal by one field of the sample, with the number, the place and which bytes it counts in."""
         foot, body, offsets, u64 = SAMPLE["footer"], SAMPLE["tree"], SAMPLE["offsets"], pieces.u64
-        real = tb.Description(["float32"], 1, 32)
-        nan, infinite = (pieces.box(["float32"], [ends]) for ends in ((math.nan, 1.0), (1.0, math.inf)))
+
+        def real_footer(low, high):
+            made = pieces.Footer(rules.Description(["float64"], 1, 32), [(low, high)])
+            return lambda: tb.read_footer(tb.Description(["float64"], 1, 32), made.file_size, made.data())
 
         def footer(at, new):
             return lambda: tb.read_footer(ONE, SAMPLE_SIZE, changed(foot, at, new))
@@ -659,7 +663,7 @@ class Refusals(unittest.TestCase):
             5: (footer(18, b"\2"), 18, 0),
             6: (footer(18, b"\1"), 18, 0),
             7: (footer(19, b"\1"), 19, 0),
-            8: (lambda: tb.read_footer(real, SAMPLE_SIZE, changed(foot, 20, nan)), 20, 0),
+            8: (real_footer(math.nan, 1.0), 20, 0),
             9: (tree(48 + 8, pieces.box(["int32"], [(5, 4)])), 56, 1),
             10: (footer(28, u64(0)), 28, 0),
             11: (footer(36, u64(33)), 36, 0),
@@ -674,11 +678,12 @@ class Refusals(unittest.TestCase):
             20: (lambda: tb.tile_sizes(2, pieces.entries([MOST, 1])), 16, 0),
             21: (in_parts, 0, 0),
             22: (lambda: tb.query_batch(ONE, 3, body, bytes(9)), 0, 0),
-            23: (lambda: tb.read_footer(real, SAMPLE_SIZE, changed(foot, 20, infinite)), 20, 0),
+            23: (real_footer(1.0, math.inf), 20, 0),
             24: (lambda: tb.committed(b"wrt\t__1_2_ab_16\n\n", 5), 1, 0),
             25: (lambda: tb.committed(b"wrt\t__1_2_ab_16\nwrt\t__1_2_ab_16\n", 5), 1, 0),
             26: (lambda: tb.write_tree_into(ONE, 3, 2, body[56:], bytearray(79)), 0, 0),
             27: (lambda: tb.null_counts(ONE, SAMPLE_SIZE, foot, pieces.entries([0, 0, 6])), 24, 1),
+            28: (lambda: tb.read_footer(tb.Description(["int32", "float32"], 1, 32), SAMPLE_SIZE, foot), 1, 0),
         }
         self.assertEqual(list(cases), REFUSALS)
         for number, (ask, place, which) in cases.items():
@@ -1123,7 +1128,7 @@ class Writing(unittest.TestCase):
         for _ in range(400):
             fanout = chance.choice([2, 2, 3, 4, 7, 1024])
             n = chance.choice([1, fanout, fanout + 1, fanout**2, fanout**2 + 1, chance.randrange(1, 30)]) % 70 or 1
-            kinds = [chance.choice(list(rules.KINDS)) for _ in range(chance.randrange(1, 5))]
+            kinds = [chance.choice(rules.DIMENSION_KINDS) for _ in range(chance.randrange(1, 5))]
             f = Fragment(kinds, n, fanout, 1, chance)
             leaves = f.tree[len(f.tree) - n * f.known.box_bytes() :]
             self.assertEqual(self.same(f.given, f.known, n, fanout, leaves), f.tree)
@@ -1137,12 +1142,11 @@ class Writing(unittest.TestCase):
 
     def test_zeros(self):
         """Between 0.0 and -0.0 each end has the bytes of the first child, in every order of four."""
-        for kind in ("float32", "float64"):
-            given, known = tb.Description([kind], 1, 32), rules.Description([kind], 1, 32)
-            for signs in range(2**8):
-                ends = [struct.pack(rules.KINDS[kind].format, -0.0 if signs >> i & 1 else 0.0) for i in range(8)]
-                body = self.same(given, known, 4, 2, b"".join(ends))
-                self.assertEqual(body[16 : 16 + 2 * len(ends[0])], ends[0] + ends[1])
+        given, known = tb.Description(["float64"], 1, 32), rules.Description(["float64"], 1, 32)
+        for signs in range(2**8):
+            ends = [struct.pack("<d", -0.0 if signs >> i & 1 else 0.0) for i in range(8)]
+            body = self.same(given, known, 4, 2, b"".join(ends))
+            self.assertEqual(body[16:32], ends[0] + ends[1])
 
     def test_checks_in_order(self):
         bad, leaves, one = tb.Description(["int32"], 1, 0), pieces.box(["int32"] * 2, [(5, 4), (3, 2)]), pieces.box(["int32"], [(4, 5)])
@@ -1187,7 +1191,7 @@ class Writing(unittest.TestCase):
 
 def everything():
     """All names of the package's modules."""
-    return {name: value for each in (tb, tb._committed, tb._values, tb._replay) for name, value in vars(each).items()}
+    return {name: value for each in (tb, tb._committed, tb._converted, tb._values, tb._replay) for name, value in vars(each).items()}
 
 
 class Header(unittest.TestCase):
@@ -1203,7 +1207,7 @@ class Header(unittest.TestCase):
 
     def test_places(self):
         constants = {name[1:]: value for name, value in everything().items() if re.fullmatch("_[A-Z0-9_]+", name)}
-        own = ("LARGEST", "NO_KIND", "FIRST_ROOM", "NAME_AT", "MOST_LINES", "BLOCK")
+        own = ("LARGEST", "NO_KIND", "FIRST_ROOM", "NAME_AT", "MOST_LINES", "BLOCK", "ADDED")
         used = {name: value for name, value in constants.items() if isinstance(value, int) and name not in own}
         self.assertEqual(used, {name: self.defined.get(name) for name in used})
         self.assertGreater(len(used), 25)
@@ -1217,11 +1221,11 @@ class Header(unittest.TestCase):
         """Parameters and results as the header declares them."""
         types = {"uint64_t": ctypes.c_uint64, "size_t": ctypes.c_size_t, "void": None}
         declared = re.findall(r"^(\w+) tussockbell_(\w+)\(([^;{]*)\);", self.header, re.M)
-        self.assertEqual(len(declared), 37)
+        self.assertEqual(len(declared), 40)
         asked = {name: function for name, function in everything().items() if name.startswith("_c_")}
         # with a check that the binding has made before
         checked = {"schema_name", "cells", "total_cells", "extent", "var_extent", "value", "range", "var_value", "sum", "null_count"}
-        self.assertEqual({name for _, name, _ in declared if "_c_" + name not in asked}, {*checked, "report"})
+        self.assertEqual({name for _, name, _ in declared if "_c_" + name not in asked}, {*checked, "convert_length", "report"})
         for result, name, parameters in declared:
             if "_c_" + name in asked:
                 parameters = re.sub(r"/\*.*?\*/", "", parameters).split(",")

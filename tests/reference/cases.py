@@ -10,16 +10,15 @@ import sys
 import pieces
 import rules
 from pieces import u64
-from rules import KINDS, LIMITS, Description, Refusal, Refused
+from rules import DIMENSION_KINDS, KINDS, LIMITS, Description, Refusal, Refused
 
 NAN32 = struct.pack("<I", 0x7FC00000)
 NAN64 = struct.pack("<Q", 0x7FF8000000000001)
 INF = float("inf")
 # Ends of a stored range, or of one that is asked with: an infinity at either end or at both, in order and reversed, and one beside a NaN.
-INFINITE = {
-    kind: [(-INF, 0.5), (0.5, INF), (INF, INF), (INF, -INF), (0.5, -INF), (nan, INF), (-INF, nan)]
-    for kind, nan in (("float32", NAN32), ("float64", NAN64))
-}
+INFINITE = [(-INF, 0.5), (0.5, INF), (INF, INF), (INF, -INF), (0.5, -INF), (NAN64, INF), (-INF, NAN64)]
+# Dimensions of which one or more are float32.
+RETIRED = [["float32"], ["float64", "float32"], ["int32", "float32", "float32"], ["int64", "uint64", "float64", "float32"]]
 MOST = 2**64 - 1
 HALF = 2**63
 # What the program reads.
@@ -36,7 +35,8 @@ class Cases:
         self.asked, self.answers = [], []
 
     def add(self, what, d, numbers, first, second, answer):
-        kinds = [KINDS[k].number for k in d.kinds] + [KINDS["float64"].number] * (MOST_DIMENSIONS - len(d.kinds))
+        # Kinds past D are not looked at: they are the one that no dimension may have.
+        kinds = [KINDS[k].number for k in d.kinds] + [KINDS["float32"].number] * (MOST_DIMENSIONS - len(d.kinds))
         numbers = list(numbers) + [0] * (3 - len(numbers))
         row = [what, d.dimensions] + kinds + [d.fields, d.capacity] + numbers + [len(first)]
         case = b"".join(map(u64, row)) + first + second
@@ -78,8 +78,8 @@ def name_answer(d, file_size, data):
 def footer_cases(cases):
     one = Description(["int32"], 1, 32)
     two = Description(["int32", "int32"], 1, 32)
-    mixed = Description(["int32", "float64", "int64", "float32"], 2, 1000)
-    many = Description(["float32"], MOST_FIELDS, MOST_CAPACITY)
+    mixed = Description(["int32", "float64", "int64", "float64"], 2, 1000)
+    many = Description(["float64"], MOST_FIELDS, MOST_CAPACITY)
     unsigned = Description(["uint64", "int64", "uint64"], 1, 32)
     zero = [(-5, 24)]
 
@@ -107,7 +107,7 @@ def footer_cases(cases):
     ask_changed(mixed, [(0, 24), (-1.5, 1.7976931348623157e308), (-(2**63), 2**63 - 1), (0.0, -0.0)])
     for domain in ((0, MOST), (HALF - 1, HALF), (HALF, HALF), (MOST, MOST), (0, 0)):
         ask_changed(unsigned, [domain, (-1, 0), domain])
-    f = pieces.Footer(many, [(-3.4028234663852886e38, 0.5)], name=b"\0" * 255)
+    f = pieces.Footer(many, [(-1.7976931348623157e308, 0.5)], name=b"\0" * 255)
     ask(many, f.data(), f.file_size, 2)
     for d, f in ((two, worked), (many, f)):
         for file_size in (f.file_size, f.total() - 1):
@@ -122,6 +122,16 @@ def footer_cases(cases):
         Description(["int32"], MOST, MOST, MOST),
     ):
         ask(d, data, 10000)
+
+    # 28: after 1 and before every byte, at the first float32 dimension
+    for kinds in RETIRED:
+        d = Description(kinds, 1, 32)
+        f = pieces.Footer(d, [(0, 1)] * len(kinds))
+        ask(d, f.data(), f.file_size)
+        ask(d, b"", 0)
+        cases.add(2, d, [f.file_size], f.data(), b"", name_answer(d, f.file_size, f.data()))
+    for d in (Description(["float32"], 0, 32), Description(["float32"], 1, 0), Description(["float32"], 1, 32, MOST_DIMENSIONS + 1)):
+        ask(d, b"", 0)
 
     # 2: too few, unlike the total, F below it, the length field
     f = pieces.Footer(one, zero)
@@ -146,8 +156,8 @@ def footer_cases(cases):
             ask_changed(one, zero, **{name: value})
 
     # 8, 9: each end, each dimension, NaN before reversed, the first dimension first
-    for low, high in ((NAN32, 1.0), (1.0, NAN32), (2.0, 1.0), (NAN32, NAN32)):
-        ask_changed(Description(["int64", "float32"], 1, 32), [(0, 1), (low, high)])
+    for low, high in ((NAN64, 1.0), (1.0, NAN64), (2.0, 1.0), (NAN64, NAN64)):
+        ask_changed(Description(["int64", "float64"], 1, 32), [(0, 1), (low, high)])
     for low, high in ((NAN64, 1.0), (1.0, NAN64), (2.0, 1.0)):
         ask_changed(Description(["float64", "int64"], 1, 32), [(low, high), (1, 0)])
     ask_changed(one, [(1, 0)])
@@ -157,13 +167,12 @@ def footer_cases(cases):
         ask_changed(unsigned, [domain, (0, 0), (0, 0)])
         ask_changed(unsigned, [(0, 0), (0, 0), domain])
 
-    # 23: after 8 and before 9, both widths, in each dimension; an infinity of the first before the second's fault, and after the first's
-    for kind in INFINITE:
-        for pair in INFINITE[kind]:
-            ask_changed(Description([kind, "int64"], 1, 32), [pair, (1, 0)])
-            ask_changed(Description(["int64", kind], 1, 32), [(0, 1), pair])
-        ask_changed(Description([kind, kind], 1, 32), [(2.0, 1.0), (-INF, INF)])
-        ask_changed(Description([kind, kind], 1, 32), [(-INF, INF), (2.0, 1.0)])
+    # 23: after 8 and before 9, in each dimension; an infinity of the first before the second's fault, and after the first's
+    for pair in INFINITE:
+        ask_changed(Description(["float64", "int64"], 1, 32), [pair, (1, 0)])
+        ask_changed(Description(["int64", "float64"], 1, 32), [(0, 1), pair])
+    ask_changed(Description(["float64", "float64"], 1, 32), [(2.0, 1.0), (-INF, INF)])
+    ask_changed(Description(["float64", "float64"], 1, 32), [(-INF, INF), (2.0, 1.0)])
 
     # 10, 11
     for tiles in (0, MOST_TILES + 1, MOST):
@@ -391,7 +400,7 @@ def tree_cases(cases):
         ask_both(body, 1)
 
     # every box: NaN and reversed in each dimension, not inside its parent
-    mixed = Description(["float32", "int64"], 1, 32)
+    mixed = Description(["float64", "int64"], 1, 32)
     boxes = [[(float(i), i + 1.5), (-i, 2 * i)] for i in range(5)]
     body = pieces.tree(mixed.kinds, boxes, 3)
     foot = pieces.Footer(mixed, [(-1e30, 1e30), (-100, 100)], tiles=5)
@@ -399,57 +408,69 @@ def tree_cases(cases):
     _, counts, starts = rules.check_shape(mixed, 5, body)
     for start, count in zip(starts, counts):
         for k in range(count):
-            at = start + 24 * k
-            ask_open(mixed, foot, body[:at] + NAN32 + body[at + 4 :])
-            ask_open(mixed, foot, body[: at + 4] + NAN32 + body[at + 8 :])
-            ask_open(mixed, foot, body[:at] + pieces.box(["float32"], [(2.0, 1.0)]) + body[at + 8 :])
-            ask_open(mixed, foot, body[: at + 8] + pieces.box(["int64"], [(1, 0)]) + body[at + 24 :])
-            ask_open(mixed, foot, body[: at + 8] + pieces.box(["int64"], [(-101, 101)]) + body[at + 24 :])
-            ask_open(mixed, foot, body[:at] + pieces.box(["float32"], [(-0.0, 0.0)]) + body[at + 8 :])
+            at = start + 32 * k
+            ask_open(mixed, foot, body[:at] + NAN64 + body[at + 8 :])
+            ask_open(mixed, foot, body[: at + 8] + NAN64 + body[at + 16 :])
+            ask_open(mixed, foot, body[:at] + pieces.box(["float64"], [(2.0, 1.0)]) + body[at + 16 :])
+            ask_open(mixed, foot, body[: at + 16] + pieces.box(["int64"], [(1, 0)]) + body[at + 32 :])
+            ask_open(mixed, foot, body[: at + 16] + pieces.box(["int64"], [(-101, 101)]) + body[at + 32 :])
+            ask_open(mixed, foot, body[:at] + pieces.box(["float64"], [(-0.0, 0.0)]) + body[at + 16 :])
             # asked as it is: shape-right bytes that opening refuses
-            broken = body[:at] + NAN32 + body[at + 4 :]
+            broken = body[:at] + NAN64 + body[at + 8 :]
             ask(mixed, 5, broken, mixed.kinds, [(0.0, 9.0), (-9, 9)])
-            ask(mixed, 5, body[:at] + pieces.box(["float32"], [(2.0, 1.0)]) + body[at + 8 :], mixed.kinds, [(0.0, 9.0), (-9, 9)])
+            ask(mixed, 5, body[:at] + pieces.box(["float64"], [(2.0, 1.0)]) + body[at + 16 :], mixed.kinds, [(0.0, 9.0), (-9, 9)])
 
-    # 23 in the domain and in every box, root, inner box and leaf, in each dimension, both widths; asked as it is, such a tree is walked
-    floats = Description(["float64", "float32"], 1, 32)
+    # 23 in the domain and in every box, root, inner box and leaf, in each dimension; asked as it is, such a tree is walked
+    floats = Description(["float64", "float64"], 1, 32)
     fine = pieces.tree(floats.kinds, [[(float(i), i + 1.5), (-float(i), 2.5 * i)] for i in range(5)], 3)
     wide = [(-1e30, 1e30), (-1e30, 1e30)]
     ask_open(floats, pieces.Footer(floats, wide, tiles=5), fine)
-    for i, kind in enumerate(floats.kinds):
-        for pair in INFINITE[kind]:
+    for i in (0, 1):
+        for pair in INFINITE:
             ask_open(floats, pieces.Footer(floats, wide[:i] + [pair] + wide[i + 1 :], tiles=5), fine)
     _, counts, starts = rules.check_shape(floats, 5, fine)
     for start, count in zip(starts, counts):
-        for k in range(count):
-            for kind, side in (("float64", 0), ("float32", 16)):
-                at = start + 24 * k + side
-                for pair in INFINITE[kind] if k == 0 else INFINITE[kind][:2]:
-                    bad = fine[:at] + pieces.box([kind], [pair]) + fine[at + KINDS[kind].range_bytes :]
+        for k in sorted({0, count - 1}):
+            for side in (0, 16):
+                at = start + 32 * k + side
+                for pair in INFINITE if k == 0 else INFINITE[:2]:
+                    bad = fine[:at] + pieces.box(["float64"], [pair]) + fine[at + 16 :]
                     ask_open(floats, pieces.Footer(floats, wide, tiles=5), bad)
                 if k > 0:
                     continue
                 ask(floats, 5, bad, floats.kinds, [(0.0, 2.0), (-2.0, 2.0)])
-                bad = fine[:at] + pieces.box([kind], [(-INF, INF)]) + fine[at + KINDS[kind].range_bytes :]
+                bad = fine[:at] + pieces.box(["float64"], [(-INF, INF)]) + fine[at + 16 :]
                 ask(floats, 5, bad, floats.kinds, [(0.0, 2.0), (-2.0, 2.0)])
     bad = fine[:16] + pieces.box(["float64"], [(-INF, INF)]) + fine[32:]
     ask(floats, 5, bad, floats.kinds, [(-INF, INF), (INF, INF)])
     ask_opened(floats, pieces.Footer(floats, wide, tiles=5), bad, floats.kinds, [(0.0, 2.0), (-2.0, 2.0)])
-    for i, kind in enumerate(floats.kinds):
-        for pair in INFINITE[kind]:
+    for i in (0, 1):
+        for pair in INFINITE:
             window = [(0.0, 2.0), (-2.0, 2.0)]
             ask(floats, 5, fine, floats.kinds, window[:i] + [pair] + window[i + 1 :])
 
+    # 28: opened, asked, asked once it was refused so, in a batch for each window; before 10, the window and every byte
+    for kinds in RETIRED:
+        d, window = Description(kinds, 1, 32), [near(kind, 0, 1) for kind in kinds]
+        old, old_foot = pieces.tree(kinds, [window] * 3, 2), pieces.Footer(d, window)
+        ask_open(d, old_foot, old)
+        ask(d, 3, old, kinds, window)
+        ask(d, 0, b"", ["int32"], [(1, 0)])
+        ask_opened(d, old_foot, old, kinds, window)
+    old = Description(["float32"], 1, 32)
+    ask_batch(old, 3, tree_a, [(["float32"], [(0.0, 9.0)]), back], 8)
+    ask(Description(["float32"], 1, 0), 3, tree_a, ["float32"], [(0.0, 9.0)])
+
     # the window: 19 for the number, then per dimension 19, 8, 9
     inf = INF
-    ask(mixed, 5, body, ["float32"], [(0.0, 1.0)])
-    ask(mixed, 5, body, ["float32", "int64", "int64"], [(0.0, 1.0), (0, 1), (0, 1)])
+    ask(mixed, 5, body, ["float64"], [(0.0, 1.0)])
+    ask(mixed, 5, body, ["float64", "int64", "int64"], [(0.0, 1.0), (0, 1), (0, 1)])
     for kinds, window in (
-        (["float64", "int64"], [(0.0, 1.0), (0, 1)]), (["float32", "int32"], [(0.0, 1.0), (0, 1)]),
-        (["int32", "int64"], [(1, 0), (0, 1)]), (["float32", "int32"], [(NAN32, 1.0), (0, 1)]),
-        (["float32", "int32"], [(1.0, 0.5), (0, 1)]), (["float32", "int64"], [(1.0, NAN32), (1, 0)]),
-        (["float32", "int64"], [(-inf, inf), (1, 0)]), (["float32", "int64"], [(-inf, inf), (0, 1)]),
-        (["float32", "int64"], [(0.0, -0.0), (-(2**63), 2**63 - 1)]), (["float32", "int64"], [(inf, inf), (0, 0)]),
+        (["float32", "int64"], [(0.0, 1.0), (0, 1)]), (["float64", "int32"], [(0.0, 1.0), (0, 1)]),
+        (["int32", "int64"], [(1, 0), (0, 1)]), (["float64", "int32"], [(NAN64, 1.0), (0, 1)]),
+        (["float64", "int32"], [(1.0, 0.5), (0, 1)]), (["float64", "int64"], [(1.0, NAN64), (1, 0)]),
+        (["float64", "int64"], [(-inf, inf), (1, 0)]), (["float64", "int64"], [(-inf, inf), (0, 1)]),
+        (["float64", "int64"], [(0.0, -0.0), (-(2**63), 2**63 - 1)]), (["float64", "int64"], [(inf, inf), (0, 0)]),
     ):
         ask(mixed, 5, body, kinds, window)
     # order of the checks
@@ -484,7 +505,7 @@ def tree_cases(cases):
         ask(wide, 5, body, ["float64"], [side])
 
     # short last rows, all kinds, infinities
-    alone, mix = [[kind] for kind in KINDS], [["int32", "int64", "float32", "float64"], ["uint64", "int64"]]
+    alone, mix = [[kind] for kind in DIMENSION_KINDS], [["int32", "int64", "uint64", "float64"], ["uint64", "int64"]]
     for kinds in alone + mix:
         d = Description(kinds, 1, 32)
         for n, f in ((1, 2), (2, 2), (7, 3), (10, 10), (11, 10)):
@@ -512,15 +533,14 @@ def box_test_cases(cases):
     def box(kinds, sides):
         return pieces.box(kinds, [near(kind, *side) for kind, side in zip(kinds, sides)])
 
-    mixes = [["int32", "float64", "int64", "float32"], ["float32", "int64"], ["float64", "int32", "float32"], ["uint64", "int64"]]
-    for kinds in [[kind] * n for kind in KINDS for n in range(1, MOST_DIMENSIONS + 1)] + mixes:
+    mixes = [["int32", "float64", "int64", "uint64"], ["float64", "int64"], ["float64", "int32", "float64"], ["uint64", "int64"]]
+    for kinds in [[kind] * n for kind in DIMENSION_KINDS for n in range(1, MOST_DIMENSIONS + 1)] + mixes:
         d, window = Description(kinds, 1, 32), [near(kind, -4, 9) for kind in kinds]
         ask(d, box(kinds, [(-7, -4)] * len(kinds)), kinds, window)
         for first in range(len(kinds)):
             sides = [(9, 20)] * first + [(-9, -5)] + [(10, 11)] * (len(kinds) - first - 1)
             ask(d, box(kinds, sides), kinds, window)
-            nan = NAN32 if kinds[first] == "float32" else NAN64
-            for ends in [(nan, 3), (3, nan)] if not KINDS[kinds[first]].whole else []:
+            for ends in [(NAN64, 3), (3, NAN64)] if not KINDS[kinds[first]].whole else []:
                 sides = [near(kind, 0, 1) for kind in kinds]
                 sides[first] = ends
                 ask(d, pieces.box(kinds, sides), kinds, window)
@@ -529,16 +549,19 @@ def box_test_cases(cases):
     good, window = pieces.box(two.kinds, [(0, 4), (10, 14)]), [(4, 4), (10, 14)]
     for side in ((5, 3), (3, 5), (4, -1)):
         ask(two, pieces.box(two.kinds, [side, (10, 14)]), two.kinds, window)
-    # 1, the window, the bytes, in that order
+    # 1, 28, the window, the bytes, in that order
     ask(two, good, two.kinds, window)
     for bad in (Description(two.kinds, 0, 32), Description(two.kinds, 1, 32, 0), Description(two.kinds, 1, 32, MOST_DIMENSIONS + 1)):
         ask(bad, b"", two.kinds, [(5, 3), (10, 14)])
+    for kinds in RETIRED:
+        ask(Description(kinds, 1, 32), b"", ["int32"], [(1, 0)])
+        ask(Description(kinds, 1, 32), box(kinds, [(0, 1)] * len(kinds)), kinds, [near(kind, 0, 1) for kind in kinds])
     ask(two, b"", two.kinds, window, 1)
     ask(two, b"", ["int64", "int64"], window)
     ask(two, b"", ["int32", "int32"], [(5, 3), (10, 14)])
     ask(two, b"", two.kinds, [(4, 4), (14, 10)])
-    for box in (b"", good[:8], good[:-1], good + b"\0", good + good):
-        ask(two, box, two.kinds, window)
+    for data in (b"", good[:8], good[:-1], good + b"\0", good + good):
+        ask(two, data, two.kinds, window)
 
 
 def fixture_cases(cases):
@@ -576,7 +599,7 @@ def main():
     box_test_cases(cases)
     fixture_cases(cases)
     size = sum(map(len, cases.asked))
-    assert size < SPACE
+    assert size < SPACE, size
     cases.write(pathlib.Path(sys.argv[1]))
     sys.stderr.write(f"{len(cases.asked)} cases, {size} bytes\n")
 

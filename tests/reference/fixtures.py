@@ -5,12 +5,16 @@
 Each folder has `footer`, `tree`, `offsets` and `sizes`; `about`: the kinds, N, C, the size of the metadata file and that of the data file,
 a line each; and `answers`: a line a window, its ends and then the tiles found, the looked-at number, the flat count. Where all kinds are int32 or
 int64 it also has a `description` as the report reads it, and what the report says (`report`).
+
+A fragment from before float32 was retired has its footer and tree in a folder `old` below the one with what they are converted to, and there an
+`about` and `answers` as they were then.
 """
 
 import pathlib
 import random
 import sys
 
+import converter
 import pieces
 import report
 import rules
@@ -31,6 +35,28 @@ def leaves(kinds, n, chance):
     return made
 
 
+def answered(d, n, tree, windows):
+    """A line for each window."""
+    lines, f = [], rules.number(tree, 0, 4)
+    for w in windows:
+        found, looked = rules.query(d, n, tree, d.kinds, w)
+        listing, count = rules.flat(d, n, tree, w)
+        assert found == listing and looked == count
+        assert looked * (f - 1) <= rules.number(tree, 4, 4) * (f - 1) + (n - 1) * f
+        ends = " ".join(repr(x) for pair in w for x in pair)
+        lines.append(f"{ends}\t{' '.join(map(str, found))}\t{looked}\t{count}\n")
+    return "".join(lines)
+
+
+def keep(place, d, n, footer, file_size, data_size, tree, windows):
+    """Footer, tree, description and answers of a fragment."""
+    place.mkdir(parents=True, exist_ok=True)
+    (place / "footer").write_bytes(footer)
+    (place / "tree").write_bytes(tree)
+    (place / "answers").write_text(answered(d, n, tree, windows))
+    (place / "about").write_text(f"{' '.join(d.kinds)}\n{d.fields}\n{d.capacity}\n{file_size}\n{data_size}\n")
+
+
 def write(folder, name, version, kinds, n, f, fields, chance):
     d = Description(kinds, fields, 100)
     boxes = leaves(kinds, n, chance)
@@ -40,31 +66,23 @@ def write(folder, name, version, kinds, n, f, fields, chance):
     extents = [chance.randrange(1, 5000) for _ in range(n)]
     starts = [sum(extents[:i]) for i in range(n)]
     window = [(low, low + 25) if rules.KINDS[kind].whole else (low / 4, low / 4 + 25) for kind, (low, _) in zip(kinds, boxes[n // 2])]
-    place = folder / name
-    place.mkdir(parents=True, exist_ok=True)
-    (place / "footer").write_bytes(foot.data())
-    (place / "tree").write_bytes(tree)
+    windows = [window, pieces.around(boxes), boxes[-1], boxes[0]]
+    windows.append([(high + 1, high + 1) for _, high in pieces.around(boxes)])
+    place, footer, file_size = folder / name, foot.data(), foot.file_size
+    if "float32" in kinds:
+        keep(place / "old", converter.Old.of(d), n, footer, file_size, sum(extents), tree, windows)
+        tree, footer = converter.convert(d, file_size, footer, tree, 2**64), converter.convert_footer(d, file_size, footer, 2**64)
+        d, file_size = converter.widened(d), file_size + converter.added(d)
+    keep(place, d, n, footer, file_size, sum(extents), tree, windows)
     (place / "offsets").write_bytes(pieces.entries(starts))
     (place / "sizes").write_bytes(pieces.entries(extents))
     assert rules.sizes(n, pieces.entries(extents)) == sum(extents)
-    windows = [window, pieces.around(boxes), boxes[-1], boxes[0]]
-    windows.append([(high + 1, high + 1) for _, high in pieces.around(boxes)])
-    lines = []
-    for w in windows:
-        found, looked = rules.query(d, n, tree, kinds, w)
-        listing, count = rules.flat(d, n, tree, w)
-        assert found == listing and looked == count
-        assert looked * (f - 1) <= rules.number(tree, 4, 4) * (f - 1) + (n - 1) * f
-        ends = " ".join(repr(x) for pair in w for x in pair)
-        lines.append(f"{ends}\t{' '.join(map(str, found))}\t{looked}\t{count}\n")
-    (place / "answers").write_text("".join(lines))
-    (place / "about").write_text(f"{' '.join(kinds)}\n{fields}\n{d.capacity}\n{foot.file_size}\n{sum(extents)}\n")
     if all(kind in ("int32", "int64") for kind in kinds):
-        numbers = [len(kinds)] + [4 * rules.KINDS[k].range_bytes for k in kinds] + [fields, d.capacity, foot.file_size, sum(extents)]
+        numbers = [len(kinds)] + [4 * rules.KINDS[k].range_bytes for k in kinds] + [fields, d.capacity, file_size, sum(extents)]
         numbers += [x for pair in window for x in pair]
         text = "".join(f"{x}\n" for x in numbers).encode()
         (place / "description").write_bytes(text)
-        (place / "report").write_bytes(report.report(text, foot.data(), tree, pieces.entries(starts)))
+        (place / "report").write_bytes(report.report(text, footer, tree, pieces.entries(starts)))
 
 
 def sample(folder):
@@ -92,9 +110,9 @@ def main():
     write(folder, "three_short_rows", 19, ["int64", "int32"], 29, 3, 3, chance)
     write(folder, "float32", 20, ["float32"], 7, 2, 1, chance)
     write(folder, "float64", 21, ["float64", "float64"], 12, 5, 1, chance)
-    write(folder, "mixed", 21, ["int32", "float64", "int64", "float32"], 10, 4, 2, chance)
+    write(folder, "mixed", 21, ["int32", "float64", "int64", "uint64"], 10, 4, 2, chance)
     write(folder, "wide_fanout", 21, ["int32"], 40, 1024, 1, chance)
-    write(folder, "uint64", 21, ["uint64", "int64", "float32"], 8, 3, 1, chance)
+    write(folder, "uint64", 21, ["uint64", "int64", "float64"], 8, 3, 1, chance)
 
 
 if __name__ == "__main__":

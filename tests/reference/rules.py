@@ -25,6 +25,9 @@ KINDS = {
     "uint64": Kind(10, 16, "<Q", True),
 }
 
+# Those that a dimension may have.
+DIMENSION_KINDS = [kind for kind in KINDS if kind != "float32"]
+
 # Least and most.
 LIMITS = {
     "dimensions": (1, 4),
@@ -67,6 +70,7 @@ class Refusal:
     REPEATED = 25
     ROOM = 26
     NULL_COUNT = 27
+    RETIRED = 28
 
 
 def allowed(what, x):
@@ -85,9 +89,15 @@ class Description:
         self.kinds, self.fields, self.capacity = kinds, fields, capacity
         self.dimensions = len(kinds) if dimensions is None else dimensions
 
-    def check(self):
+    def check_limits(self):
         if not all(allowed(what, getattr(self, what)) for what in ("dimensions", "fields", "capacity")):
             raise Refused(Refusal.DESCRIPTION, 0)
+
+    def check(self):
+        self.check_limits()
+        for i, kind in enumerate(self.kinds[: self.dimensions]):
+            if kind == "float32":
+                raise Refused(Refusal.RETIRED, i)
 
     def box_bytes(self):
         return sum(KINDS[k].range_bytes for k in self.kinds[: self.dimensions])

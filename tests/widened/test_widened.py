@@ -14,8 +14,8 @@ import pieces
 import rules
 import tussockbell as tb
 
-MIXES = [["int32"], ["int64"], ["float32"], ["float64"], ["uint64"], ["int32", "float64"], ["uint64", "float64"],
-         ["float32", "int64", "int32"], ["float64", "float32", "int64", "int32"]]
+MIXES = [["int32"], ["int64"], ["float64"], ["uint64"], ["int32", "float64"], ["uint64", "float64"], ["float64", "int64", "int32"],
+         ["float64", "uint64", "int64", "int32"]]
 SIZES = [(1, 2), (2, 2), (3, 2), (17, 2), (40, 3), (100, 10), (101, 10), (130, 64), (64, 4)]
 
 

@@ -13,6 +13,7 @@
     body = tb.write_tree(d, tiles, fanout, leaf_boxes)
     names = tb.committed(listing, time).names
     text = tree.replay(log_bytes)
+    new_tree = tb.convert_tree(old, file_size, old_footer_bytes, old_tree_bytes)
 
 Every function asks the proved library, and raises `Refused`, with a number and a place, where the library refuses.
 docs/RULES.md has the rules. Numbers outside the limits are refused like any other bad input, however large or small they are.
@@ -70,13 +71,14 @@ from dataclasses import dataclass, field
 from typing import Any, NamedTuple, Optional, Protocol, SupportsFloat, SupportsIndex, Tuple, Union, cast, overload
 
 __all__ = [
-    "Committed", "Description", "Footer", "Hit", "NullCounts", "Offsets", "Opened", "Refused", "TileRanges", "TileSums",
-    "TileValues", "Tree", "TreeParts", "VarValues", "Window", "box_test", "committed", "log_line", "null_counts",
-    "open_tree", "query", "query_batch", "read_footer", "replay", "replay_into", "tile_offsets", "tile_ranges",
-    "tile_sizes", "tile_sums", "tile_values", "tree_length", "var_tile_offsets", "write_tree", "write_tree_into",
+    "Committed", "ConvertedFooter", "Description", "Footer", "Hit", "NullCounts", "Offsets", "Opened", "Refused", "TileRanges",
+    "TileSums", "TileValues", "Tree", "TreeParts", "VarValues", "Window", "box_test", "committed", "convert_footer", "convert_tree",
+    "convert_tree_into", "log_line", "null_counts", "open_tree", "query", "query_batch", "read_footer", "replay", "replay_into",
+    "tile_offsets", "tile_ranges", "tile_sizes", "tile_sums", "tile_values", "tree_length", "var_tile_offsets", "write_tree",
+    "write_tree_into",
 ]
 
-__version__ = "0.2.0"
+__version__ = "1.0.0"
 
 
 class _Named(Protocol):
@@ -132,6 +134,7 @@ _TEXTS = {
     25: "a record repeated whole",
     26: "the output buffer is too short",
     27: "a null count above its tile's cells",
+    28: "a dimension of kind float32, which is retired",
 }
 
 _NUMBER, _PLACE = 0, 1
@@ -470,12 +473,9 @@ def _packed(kinds: bytes, windows: list[Any]) -> Optional[bytes]:
         # A window that can be gone through only once has no length: it is left to be looked at.
         if not all(map(len, windows)):
             return None
-        # A float32 end that is no float yet may have to be rounded with care, and no complex number but numpy's is packed.
-        if _FLOAT32 in kinds or "numpy" in sys.modules:
-            types = {type(end) for window in windows for side in window for end in side}
-            _no_complex(types)
-            if _FLOAT32 in kinds and types != {float}:
-                return None
+        # No complex number but numpy's is packed.
+        if "numpy" in sys.modules:
+            _no_complex({type(end) for window in windows for side in window for end in side})
         return _packer(kinds)(windows)
     except (KeyError, TypeError, ValueError, struct.error, OverflowError):
         return None
@@ -639,9 +639,10 @@ def _lend_boxes(description: Description, data: Any, what: str, one: bool = Fals
 class Description:
     """What is known of a fragment beforehand, from the array's schema.
 
-    `kinds` has a kind for each dimension: "int32", "int64", "float32", "float64", "uint64", TileDB's Datatype number of it, or a
+    `kinds` has a kind for each dimension: "int32", "int64", "float64", "uint64", TileDB's Datatype number of it, or a
     type that is called so, such as numpy.dtype("uint64"), numpy.uint64 or a TileDB dimension's dtype. A string in the
-    list's place is a TypeError: one dimension is ["int32"].
+    list's place is a TypeError: one dimension is ["int32"]. "float32" is a kind too, of fields and of old dimensions:
+    `convert_tree` and `convert_footer` take a description with it, and it is refused (28 at the dimension) by all else.
     `fields` is the number of entries in each per-field list of the footer. `capacity` is the cells of a full tile.
 
     A description is not checked when it is made. One outside the limits is refused (1 at 0) where it is used.
@@ -658,6 +659,21 @@ class Description:
         given = _kind_bytes(kinds)
         object.__setattr__(self, "kinds", kinds)
         object.__setattr__(self, "_given", (given, len(given), _limited(self.fields), _limited(self.capacity)))
+
+    def widened(self) -> Description:
+        """The description with float64 for float32: that of what `convert_tree` and `convert_footer` write."""
+        return _converted.widened(self)
+
+    def widen(self, window: Union[Window, Iterable[Range]]) -> Window:
+        """The window of a converted tree that asks what this one asked of the old tree, whose description this is.
+
+        The ends of a float32 dimension are first rounded to the nearest float32, as a query of the old tree did, and
+        then widened. Plain numbers have no kind, so it takes the old description to do that, and it has to be done: the
+        window from 0.05 to 0.1 met a float32 box from 0.1 on, since the nearest float32 to 0.1 is above it, and asked
+        unrounded it misses the same box. A `Window` is widened by its own kinds, and a numpy array of float32 windows,
+        whose ends are rounded, by its own `astype("<f8")`.
+        """
+        return _converted.widen(self, window)
 
 
 class Window:
@@ -1179,10 +1195,11 @@ def write_tree_into(
             return _write(description, _limited(tiles), _limited(fanout), lent, room)
 
 
-# ---- listings, what is known of a tile's values, logs of queries: modules that stand on what is above, so they come last
+# ---- listings, what is known of a tile's values, logs of queries, old trees: modules that stand on what is above, so they come last
 
-from tussockbell import _replay  # noqa: E402
+from tussockbell import _converted, _replay  # noqa: E402
 from tussockbell._committed import Committed, committed  # noqa: E402
+from tussockbell._converted import ConvertedFooter, convert_footer, convert_tree, convert_tree_into  # noqa: E402
 from tussockbell._replay import log_line, replay, replay_into  # noqa: E402
 from tussockbell._values import (  # noqa: E402
     NullCounts, TileRanges, TileSums, TileValues, VarValues, null_counts, tile_ranges, tile_sums, tile_values,

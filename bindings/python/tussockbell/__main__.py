@@ -16,6 +16,13 @@ draws two dimensions of the tree and the tiles that the window touches.
 asks the queries of a log again, and prints for each whether its answer is the logged one; a line that differs or is bad
 gives exit status 1, and `--quiet` prints only such lines.
 
+    python3 -m tussockbell convert --kinds int32,float32 --fields 3 --capacity 1000 --file-size 40960 \
+        --out-footer NEW_FOOTER --out-tree NEW_TREE FOOTER TREE
+
+writes the footer and the tree of a fragment from before float32 was retired with float64 in its place, and prints the new
+kinds and the file size that goes with the new footer. Each file is written under another name and then renamed, so that
+it is there whole or not at all.
+
     python3 -m tussockbell committed LISTING --time 1700000000000
 
 prints the names of the committed folders of a listing that are no later than a time, one a line.
@@ -37,7 +44,7 @@ import sys
 from typing import Any, BinaryIO, NoReturn, Optional, TextIO, Union
 
 import tussockbell as tb
-from tussockbell import _committed, _picture, _replay
+from tussockbell import _committed, _converted, _picture, _replay
 
 _REFUSED, _FAILED = 1, 2
 
@@ -113,7 +120,7 @@ def _arguments(words: list[str]) -> argparse.Namespace:
         allow_abbrev=False,
     )
     parser.add_argument("--version", action="version", version=f"tussockbell {tb.__version__}")
-    commands = parser.add_subparsers(dest="command", required=True, metavar="query|plot|replay|committed")
+    commands = parser.add_subparsers(dest="command", required=True, metavar="query|plot|replay|convert|committed")
     asked = _Parser(add_help=False, allow_abbrev=False)
     asked.add_argument("--kinds", required=True, help="a kind for each dimension, as int32,float64")
     asked.add_argument("--fields", required=True, type=int, metavar="N", help="entries in each per-field list")
@@ -136,6 +143,7 @@ def _arguments(words: list[str]) -> argparse.Namespace:
         command.add_argument("tree", metavar="TREE", help="the R-tree body's bytes")
     query.add_argument("offsets", metavar="OFFSETS", help="the bytes of the list of tile offsets")
     _replay.add_command(commands, asked)
+    _converted.add_command(commands, asked)
     _committed.add_command(commands)
     # A window may start with a minus, which would else count as an option's.
     joined: list[str] = []
@@ -215,6 +223,9 @@ def _answer(words: Optional[list[str]]) -> int:
         description = tb.Description(asked.kinds.split(","), asked.fields, asked.capacity)
         if asked.command == "replay":
             return _replay.run_command(asked, description, _read, _write)
+        if asked.command == "convert":
+            _converted.run_command(asked, description, _read, _write)
+            return 0
         {"query": _query, "plot": _plot}[asked.command](asked, description)
         return 0
     finally:

@@ -302,6 +302,46 @@ pub(crate) fn report(description: &[u8], footer: &[u8], tree: &[u8], offsets: &[
     }
 }
 
+// ---- old trees
+
+use crate::places::CONVERT_PLACES;
+
+#[rustfmt::skip] // as above
+extern "C" {
+    fn tussockbell_convert(kinds: *const u8, kinds_length: usize, fields: u64, capacity: u64, file_size: u64,
+                           footer: *const u8, footer_length: usize, tree: *const u8, tree_length: usize, out: *mut u8,
+                           out_length: usize, answer: *mut u64);
+    fn tussockbell_convert_length(kinds: *const u8, kinds_length: usize, fields: u64, capacity: u64, file_size: u64,
+                                  footer: *const u8, footer_length: usize, tree: *const u8, tree_length: usize,
+                                  answer: *mut u64);
+    fn tussockbell_convert_footer(kinds: *const u8, kinds_length: usize, fields: u64, capacity: u64, file_size: u64,
+                                  footer: *const u8, footer_length: usize, out: *mut u8, out_length: usize,
+                                  answer: *mut u64);
+}
+
+pub(crate) fn convert(asked: Asked, tree: &[u8], out: &mut [u8]) -> [u64; CONVERT_PLACES] {
+    let (mut answer, (t, length)) = ([0; CONVERT_PLACES], (tree.as_ptr(), tree.len()));
+    // SAFETY: pointers and lengths of slices, an answer array of the header's places, and a buffer lent to nobody else.
+    unsafe {
+        with_footer!(tussockbell_convert, asked, t, length, out.as_mut_ptr(), out.len(), answer.as_mut_ptr());
+    }
+    answer
+}
+
+pub(crate) fn convert_length(asked: Asked, tree: &[u8]) -> [u64; CONVERT_PLACES] {
+    let mut answer = [0; CONVERT_PLACES];
+    // SAFETY: pointers and lengths of slices, and an answer array of the header's places.
+    unsafe { with_footer!(tussockbell_convert_length, asked, tree.as_ptr(), tree.len(), answer.as_mut_ptr()) };
+    answer
+}
+
+pub(crate) fn convert_footer(asked: Asked, out: &mut [u8]) -> [u64; CONVERT_PLACES] {
+    let mut answer = [0; CONVERT_PLACES];
+    // SAFETY: pointers and lengths of slices, an answer array of the header's places, and a buffer lent to nobody else.
+    unsafe { with_footer!(tussockbell_convert_footer, asked, out.as_mut_ptr(), out.len(), answer.as_mut_ptr()) };
+    answer
+}
+
 // ---- listings
 
 #[rustfmt::skip] // one line a row of parameters, as in the header

@@ -13,6 +13,8 @@
 //! - [`tile_values`], [`tile_ranges`], [`tile_sums`] and [`null_counts`] read what is known of a field in each tile;
 //!   [`var_tile_values`] and [`var_tile_ranges`] are for var fields.
 //! - [`write_tree`] writes an R-tree from its leaf boxes, and [`tree_length`] tells how many bytes it has.
+//! - [`convert_tree`] and [`convert_footer`] write the tree and the footer of a fragment from before float32 was retired
+//!   with float64 in its place; [`converted_length`] tells the room for the tree.
 //! - [`committed`] tells which folders of a listing are committed.
 //! - [`report`] writes the report of four files as text.
 //! - [`replay`] asks the queries of a log again, and writes which answers are the logged ones.
@@ -47,6 +49,7 @@
 
 mod batch;
 mod committed;
+mod convert;
 #[allow(unsafe_code)]
 mod ffi;
 mod footer;
@@ -62,6 +65,7 @@ mod write;
 
 pub use batch::{query_batch, query_batch_bytes, Record};
 pub use committed::{committed, Committed};
+pub use convert::{convert_footer, convert_tree, converted_length, ConvertedFooter};
 pub use footer::{read_footer, Footer};
 pub use lists::{tile_offsets, tile_sizes, var_tile_offsets, Extent, TileOffsets};
 pub use parts::{Opened, TreeParts};

@@ -59,8 +59,7 @@ impl<'w> TreeParts<'w> {
     /// What all blocks came to.
     pub fn finish(self) -> Result<Opened, Refused> {
         let answer = ffi::parts_finish(&self.state, self.work);
-        let which = if answer[OPEN_WHICH] == 0 { Which::First } else { Which::Second };
-        Refused::check(&answer, which)?;
+        Refused::check(&answer, Which::of(answer[OPEN_WHICH]))?;
         Ok(Opened { tiles: answer[OPEN_TILES], fanout: answer[OPEN_FANOUT], levels: answer[OPEN_LEVELS] })
     }
 }

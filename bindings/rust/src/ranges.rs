@@ -10,7 +10,8 @@ pub enum Kind {
     Int32 = 0,
     /// 64-bit integers, two's complement.
     Int64 = 1,
-    /// 32-bit floats, IEEE 754.
+    /// 32-bit floats, IEEE 754: a field may have them, and old dimensions do, which only
+    /// [`convert_tree`](crate::convert_tree) and [`convert_footer`](crate::convert_footer) take.
     Float32 = 2,
     /// 64-bit floats, IEEE 754.
     Float64 = 3,
@@ -54,7 +55,7 @@ impl TryFrom<u8> for Kind {
 /// What has to be known of an array to read its fragments.
 ///
 /// It may hold any values: each function checks all of it, and refuses one outside the limits with
-/// [`Refused::DESCRIPTION`] at 0. The constants are the limits, of the description and of what is read.
+/// [`Refused::DESCRIPTION`] at 0, and one with a float32 dimension with [`Refused::RETIRED`] at the first of them. The constants are the limits, of the description and of what is read.
 #[derive(Clone, Copy, Debug, PartialEq, Eq, Hash)]
 pub struct Description<'a> {
     /// The kind of each dimension.

@@ -8,9 +8,20 @@ use std::fmt;
 pub enum Which {
     /// The first or only one, and where the refusal is about the bytes of neither.
     First,
-    /// The second one: what [`open_tree`](crate::open_tree), [`tile_ranges`](crate::tile_ranges) and
-    /// [`null_counts`](crate::null_counts) take last.
+    /// The second one: what [`open_tree`](crate::open_tree), [`convert_tree`](crate::convert_tree),
+    /// [`tile_ranges`](crate::tile_ranges) and [`null_counts`](crate::null_counts) take last.
     Second,
+}
+
+impl Which {
+    /// By the number that an answer has for it.
+    pub(crate) fn of(number: u64) -> Which {
+        if number == 0 {
+            Which::First
+        } else {
+            Which::Second
+        }
+    }
 }
 
 /// Why the library does not answer: a number that says what is wrong, and the place of it in the lent bytes.
@@ -27,8 +38,8 @@ pub struct Refused {
     /// The refusal's number; the constants have them by name.
     pub number: u64,
     /// The position of the field's first byte in the lent bytes. Where a byte count or the length field is wrong it is
-    /// the number of lent bytes, in a window the dimension counted from 0, in a listing the line counted from 0, and
-    /// where no bytes are to blame 0.
+    /// the number of lent bytes, in a window or of a retired kind the dimension counted from 0, in a listing the line
+    /// counted from 0, and where no bytes are to blame 0.
     pub place: u64,
     /// Which of two byte strings the place counts in.
     pub which: Which,
@@ -82,6 +93,7 @@ refusals! {
     25 REPEATED "a record repeated whole";
     26 ROOM "the output buffer is too short";
     27 NULL_COUNT "a null count above its tile's cells";
+    28 RETIRED "a dimension of kind float32, which is retired";
 }
 
 impl Refused {

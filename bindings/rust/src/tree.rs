@@ -136,8 +136,7 @@ pub fn open_tree<'a>(
     tree: &'a [u8],
 ) -> Result<Tree<'a>, Refused> {
     let answer = ffi::open(Asked { description: *description, file_size, footer }, tree);
-    let which = if answer[OPEN_WHICH] == 0 { Which::First } else { Which::Second };
-    Refused::check(&answer, which)?;
+    Refused::check(&answer, Which::of(answer[OPEN_WHICH]))?;
     let (tiles, fanout, levels) = (answer[OPEN_TILES], answer[OPEN_FANOUT], answer[OPEN_LEVELS]);
     Ok(Tree { description: *description, bytes: tree, tiles, fanout, levels })
 }

@@ -75,14 +75,6 @@ macro_rules! tiles {
     };
 }
 
-fn which(number: u64) -> Which {
-    if number == 0 {
-        Which::First
-    } else {
-        Which::Second
-    }
-}
-
 /// Accepted mins or maxes of a field of a fixed kind. [`tile_values`] makes it.
 #[derive(Clone, Copy)]
 pub struct TileValues<'a> {
@@ -171,7 +163,7 @@ pub fn tile_ranges<'a>(
     maxes: &'a [u8],
 ) -> Result<TileRanges<'a>, Refused> {
     let answer = ffi::ranges(kind, tiles, mins, maxes);
-    Refused::check(&answer, which(answer[RANGES_WHICH]))?;
+    Refused::check(&answer, Which::of(answer[RANGES_WHICH]))?;
     let tiles = answer[RANGES_TILES];
     let [mins, maxes] = [mins, maxes].map(|body| TileValues { kind, tiles, body });
     Ok(TileRanges { tiles, mins, maxes })
@@ -212,7 +204,7 @@ pub fn var_tile_ranges<'a>(
     maxes: &'a [u8],
 ) -> Result<[VarValues<'a>; 2], Refused> {
     let answer = ffi::var_ranges(tiles, mins, maxes);
-    Refused::check(&answer, which(answer[RANGES_WHICH]))?;
+    Refused::check(&answer, Which::of(answer[RANGES_WHICH]))?;
     Ok([mins, maxes].map(|body| VarValues { tiles: answer[RANGES_TILES], body }))
 }
 
@@ -271,6 +263,6 @@ pub fn null_counts<'a>(
     body: &'a [u8],
 ) -> Result<NullCounts<'a>, Refused> {
     let answer = ffi::null_counts(Asked { description: *description, file_size, footer }, body);
-    Refused::check(&answer, which(answer[NULL_COUNTS_WHICH]))?;
+    Refused::check(&answer, Which::of(answer[NULL_COUNTS_WHICH]))?;
     Ok(NullCounts { tiles: answer[NULL_COUNTS_TILES], body })
 }

@@ -271,7 +271,7 @@ fn the_binding_answers_as_the_rules_say() {
         }
     }
     // every refusal but the two that only a tree with its footer can get; and those that are about the tree
-    assert!(first.into_iter().eq((1..=14).chain(17..=20).chain([22, 23, 26])));
+    assert!(first.into_iter().eq((1..=14).chain(17..=20).chain([22, 23, 26, 28])));
     assert!(second.into_iter().eq([2, 8, 9, 13, 14, 15, 16, 23]));
     assert!(accepted > CASES / 4 && left_out < CASES / 50, "{accepted} accepted, {left_out} left out");
 }

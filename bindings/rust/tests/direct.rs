@@ -160,18 +160,19 @@ fn a_bad_side_is_refused_at_its_dimension() {
     let mixed = Fixture::named("mixed");
     let tree = mixed.open();
     let domain = read_footer(&mixed.description(), mixed.file_size, &mixed.footer).unwrap().domain().to_vec();
-    let (nan, quiet, signalling) = (f64::NAN, f32::NAN, f32::from_bits(0xff80_0001));
+    let (nan, signalling) = (f64::NAN, f64::from_bits(0xfff0_0000_0000_0001));
     let bad = [
         (0, Range::Int64(0, 0), Refused::WINDOW),
         (0, Range::Int32(i32::MAX, i32::MIN), Refused::REVERSED),
         (1, Range::Float32(0.0, 0.0), Refused::WINDOW),
         (1, Range::Float64(nan, 0.0), Refused::NOT_A_NUMBER),
         (1, Range::Float64(0.0, -nan), Refused::NOT_A_NUMBER),
+        (1, Range::Float64(signalling, nan), Refused::NOT_A_NUMBER),
+        (1, Range::Float64(1.0, 0.5), Refused::REVERSED),
         (1, Range::Float64(f64::INFINITY, f64::NEG_INFINITY), Refused::REVERSED),
         (2, Range::Int64(i64::MAX, i64::MIN), Refused::REVERSED),
-        (3, Range::Float32(quiet, quiet), Refused::NOT_A_NUMBER),
-        (3, Range::Float32(0.0, signalling), Refused::NOT_A_NUMBER),
-        (3, Range::Float32(1.0, 0.5), Refused::REVERSED),
+        (3, Range::Int64(0, 0), Refused::WINDOW),
+        (3, Range::Uint64(u64::MAX, 0), Refused::REVERSED),
     ];
     for (at, side, number) in bad {
         let mut window = domain.clone();
@@ -185,19 +186,19 @@ fn a_stored_infinity_is_refused_and_a_window_may_be_open() {
     let floats = Fixture::named("float32");
     let d = floats.description();
     let tiles = floats.open().tiles();
-    let open = [Range::Float32(f32::NEG_INFINITY, f32::INFINITY)];
+    let open = [Range::Float64(f64::NEG_INFINITY, f64::INFINITY)];
     let domain = 14 + u64::from_le_bytes(floats.footer[4..12].try_into().unwrap()) as usize;
     for (low, high, number) in [
-        (f32::NEG_INFINITY, f32::INFINITY, Refused::INFINITE),
-        (f32::INFINITY, f32::NEG_INFINITY, Refused::INFINITE),
-        (f32::NEG_INFINITY, f32::NAN, Refused::NOT_A_NUMBER),
+        (f64::NEG_INFINITY, f64::INFINITY, Refused::INFINITE),
+        (f64::INFINITY, f64::NEG_INFINITY, Refused::INFINITE),
+        (f64::NEG_INFINITY, f64::NAN, Refused::NOT_A_NUMBER),
     ] {
         let ends = [low.to_le_bytes(), high.to_le_bytes()].concat();
         let mut footer = floats.footer.clone();
-        footer[domain..domain + 8].copy_from_slice(&ends);
+        footer[domain..domain + 16].copy_from_slice(&ends);
         assert_eq!(read_footer(&d, floats.file_size, &footer).unwrap_err(), refusal(number, domain as u64));
         let mut root = floats.tree.clone();
-        root[16..24].copy_from_slice(&ends);
+        root[16..32].copy_from_slice(&ends);
         let second = Refused { which: Which::Second, ..refusal(number, 16) };
         assert_eq!(open_tree(&d, floats.file_size, &floats.footer, &root).unwrap_err(), second);
         // asked as it is, the tree is walked: a root with a NaN meets nothing
@@ -213,7 +214,7 @@ fn the_widest_window_finds_every_tile() {
         Range::Int32(i32::MIN, i32::MAX),
         Range::Float64(f64::NEG_INFINITY, f64::INFINITY),
         Range::Int64(i64::MIN, i64::MAX),
-        Range::Float32(f32::NEG_INFINITY, f32::INFINITY),
+        Range::Uint64(0, u64::MAX),
     ];
     let tree = mixed.open();
     assert!(tree.tiles_in(&widest).unwrap().into_iter().eq(0..tree.tiles() as u32));
@@ -223,10 +224,10 @@ fn the_widest_window_finds_every_tile() {
 #[test]
 fn both_zeros_are_one_end() {
     let mut tree = [2u32, 1, 1, 0].map(u32::to_le_bytes).concat();
-    tree.extend([-0.0f32, 0.0].map(f32::to_le_bytes).concat());
-    let description = Description { kinds: &[Kind::Float32], fields: 1, capacity: 1 };
+    tree.extend([-0.0f64, 0.0].map(f64::to_le_bytes).concat());
+    let description = Description { kinds: &[Kind::Float64], fields: 1, capacity: 1 };
     for (low, high) in [(0.0, 0.0), (-0.0, -0.0), (0.0, -0.0), (-0.0, 0.0)] {
-        let answer = query(&description, 1, &tree, &[Range::Float32(low, high)], &mut []).unwrap();
+        let answer = query(&description, 1, &tree, &[Range::Float64(low, high)], &mut []).unwrap();
         assert_eq!((answer.found, answer.looked), (1, 1));
     }
 }

@@ -117,3 +117,7 @@ room = 26
 -- a null count above its tile's cells
 abbrev pub nullCount : ℕ
 nullCount = 27
+
+-- a dimension of kind float32, which is retired
+abbrev pub retired : ℕ
+retired = 28

@@ -66,6 +66,8 @@ impl Refusal {
 
     pub const NULL_COUNT: u64 = 27;
 
+    pub const RETIRED: u64 = 28;
+
     pub fn none() -> Refusal
         ensures { λ r. ⌜ r ≡ none ⌝ }
     {

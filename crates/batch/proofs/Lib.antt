@@ -2,5 +2,6 @@
 pub mod Laying
 pub mod Windows
 pub mod Run
+pub mod Rules
 mod Step
 mod Lent

@@ -16,7 +16,7 @@ use Rattle.description.specs.declared.Description.{Description}
 use Rattle.boxes.specs.declared.Window.{Window}
 use Rattle.query.specs.declared.Answer.{Answer}
 use Rattle.query.specs.Query.{queryAnswer}
-use Rattle.batch.specs.Batch.{batchOf, noWindow, noAnswer, askedFrom, askedBuffer, batchAnswers, batchBuffer, foundBy, foundByAll, foundBefore, Answered, Batched}
+use Rattle.batch.specs.Batch.{batchOf, noWindow, noAnswer, askedFrom, askedBuffer, batchAnswers, batchAnswersBy, batchBuffer, foundBy, foundByAll, foundBefore, Answered, Batched}
 use Rattle.batch.specs.Code.Run.{usedAt, bufferAt, answersAt}
 use Rattle.batch.specs.declared.Batch.{Batch}
 use Rattle.batch.proofs.Laying.{laid-nil, laid-append, laid-front, laid-rest}
@@ -60,18 +60,18 @@ module _ (d : Description) (n : ℕ) (body : List ℕ) (ws : List Window) where
   buffer-all out = buffer-at out (length ws) (omega arith) ∙ rw take-length (sym (batch-laid d n body ws out))
 
   answers-length : (us : List Window) → length (batchAnswers d n body us) ≡ length us
-  unfolding batchAnswers
+  unfolding batchAnswersBy
   answers-length [] = refl
   answers-length (u ∷ us) = ap suc (answers-length us)
 
   answers-append : (us vs : List Window) → batchAnswers d n body (us ++ vs) ≡ batchAnswers d n body us ++ batchAnswers d n body vs
-  unfolding batchAnswers
+  unfolding batchAnswersBy
   answers-append [] vs = refl
   answers-append (u ∷ us) vs = rw (answers-append us vs)
 
   pub answers-at : (rs : List Answer) → length rs ≡ length ws → (i : ℕ) → i ≤ length ws
       → answersAt d n body ws rs i ≡ batchAnswers d n body (take i ws) ++ drop i rs
-  unfolding batchAnswers
+  unfolding batchAnswersBy
   answers-at rs e zero h = refl
   answers-at rs e (suc i) h =
       let w = getD ws i noWindow in

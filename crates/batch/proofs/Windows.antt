@@ -15,7 +15,7 @@ use Rattle.description.specs.declared.Description.{Description}
 use Rattle.boxes.specs.declared.Window.{Window}
 use Rattle.query.specs.Query.{queryRefusal, foundAt, lookedAt, refusedAnswer, queryAnswerBy, queryAnswer, queryBufferBy, queryBuffer}
 use Rattle.query.proofs.Promised.{keeps}
-use Rattle.batch.specs.Batch.{noWindow, noAnswer, batchAnswers, batchBuffer, foundBy, foundByAll, partBefore, partAfter, EachPromises}
+use Rattle.batch.specs.Batch.{noWindow, noAnswer, batchAnswers, batchAnswersBy, batchBuffer, batchBufferBy, foundBy, foundByAll, partBefore, partAfter, EachPromises}
 use Rattle.batch.proofs.Laying.{laid-nil, laid-append, laid-front, laid-rest, laid-from, laid-own}
 
 module _ (d : Description) (n : ℕ) (body : List ℕ) where
@@ -40,7 +40,7 @@ module _ (d : Description) (n : ℕ) (body : List ℕ) where
 
   -- the buffer holds the found tiles of all windows that aren't refused, one after the other, as many as fit
   pub batch-laid : (ws : List Window) (out : List ℕ) → batchBuffer d n body ws out ≡ laid (foundByAll d n body ws) out
-  unfolding batchBuffer foundByAll
+  unfolding batchBufferBy foundByAll
   batch-laid [] out = sym (laid-nil out)
   batch-laid (w ∷ ws) out =
       rw (tiles-laid w out, found-tiles w, laid-front (foundBy d n body w) out, laid-rest (foundBy d n body w) out, batch-laid ws (drop (length (foundBy d n body w)) out))
@@ -62,7 +62,7 @@ module _ (d : Description) (n : ℕ) (body : List ℕ) where
 
   -- each window's answer
   pub answer-at : (ws : List Window) (i : ℕ) → i < length ws → getD (batchAnswers d n body ws) i noAnswer ≡ queryAnswer d n body (getD ws i noWindow)
-  unfolding batchAnswers
+  unfolding batchAnswersBy
   answer-at [] i h = absurd (omega arith)
   answer-at (w ∷ ws) zero h = refl
   answer-at (w ∷ ws) (suc i) h = answer-at ws i (omega arith)

@@ -8,9 +8,10 @@ use lib.Dec.{eqb}
 use lib.ListN.{length, getD, take, drop}
 use Rattle.answers.specs.Refusals.{runs}
 use Rattle.description.specs.declared.Description.{Description}
+use Rattle.description.specs.Rules.{Rules, current}
 use Rattle.boxes.specs.declared.Window.{Window}
 use Rattle.query.specs.declared.Answer.{Answer}
-use Rattle.query.specs.Query.{queryRefusal, foundAt, queryAnswer, queryBuffer, Promises}
+use Rattle.query.specs.Query.{queryRefusal, foundAt, queryAnswer, queryAnswerBy, queryBuffer, queryBufferBy, Promises}
 use Rattle.batch.specs.declared.Asked.{Asked}
 use Rattle.batch.specs.declared.Batch.{Batch}
 
@@ -29,10 +30,34 @@ noWindow = record { dimensions = 0; sides = [] }
 abbrev pub noAnswer : Answer
 noAnswer = record { number = 0; place = 0; found = 0; looked = 0 }
 
+-- the places that a window uses of those that are left: as many as it finds tiles; a refused window finds none
+abbrev pub placesUsed : Answer → ℕ → ℕ
+placesUsed answer left = min (answer .found) left
+
+module _ (rules : Rules) (d : Description) (n : ℕ) (body : List ℕ) where
+  -- Each window answers as if asked alone
+  unfoldable pub batchAnswersBy : List Window → List Answer
+  batchAnswersBy [] = []
+  batchAnswersBy (w ∷ ws) = queryAnswerBy rules d n body w ∷ batchAnswersBy ws
+
+  -- with what the earlier ones left of the buffer.
+  unfoldable pub batchBufferBy : List Window → List ℕ → List ℕ
+  batchBufferBy [] out = out
+  batchBufferBy (w ∷ ws) out =
+      let after = queryBufferBy rules d n body w out in
+      let used = placesUsed (queryAnswerBy rules d n body w) (length out) in
+      take used after ++ batchBufferBy ws (drop used after)
+
+-- by the rules of this library
 module _ (d : Description) (n : ℕ) (body : List ℕ) where
-  -- the places that a window uses of those that are left: as many as it finds tiles; a refused window finds none
+  abbrev pub batchAnswers : List Window → List Answer
+  batchAnswers = batchAnswersBy current d n body
+
+  abbrev pub batchBuffer : List Window → List ℕ → List ℕ
+  batchBuffer = batchBufferBy current d n body
+
   abbrev pub usedBy : Window → ℕ → ℕ
-  usedBy w left = min (queryAnswer d n body w .found) left
+  usedBy w left = placesUsed (queryAnswer d n body w) left
 
   -- a window that is asked once `used` places of the buffer are used: its answer, and the places used after it
   unfoldable pub askedFrom : Window → ℕ → ℕ → Asked
@@ -41,19 +66,6 @@ module _ (d : Description) (n : ℕ) (body : List ℕ) where
   -- the places used stay, and the window is asked with the others
   unfoldable pub askedBuffer : Window → List ℕ → ℕ → List ℕ
   askedBuffer w out used = take used out ++ queryBuffer d n body w (drop used out)
-
-  -- Each window answers as if asked alone
-  unfoldable pub batchAnswers : List Window → List Answer
-  batchAnswers [] = []
-  batchAnswers (w ∷ ws) = queryAnswer d n body w ∷ batchAnswers ws
-
-  -- with what the earlier ones left of the buffer.
-  unfoldable pub batchBuffer : List Window → List ℕ → List ℕ
-  batchBuffer [] out = out
-  batchBuffer (w ∷ ws) out =
-      let after = queryBuffer d n body w out in
-      let used = usedBy w (length out) in
-      take used after ++ batchBuffer ws (drop used after)
 
   -- the tiles that a window finds; a refused one finds none
   unfoldable pub foundBy : Window → List ℕ

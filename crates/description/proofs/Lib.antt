@@ -6,3 +6,4 @@ pub mod Patterns
 pub mod Keys
 pub mod Datatypes
 pub mod Rules
+pub mod Retired

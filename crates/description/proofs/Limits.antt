@@ -7,10 +7,10 @@ use Prim.Native.Nat.{ℕ, _≤_}
 use native.Mathlib.Omega.{arith}
 use lib.Dec.{ltb}
 use borrow.Author.Tests.{ltb-false, le-ltb}
-use Rattle.answers.proofs.Checks.{clear, check-clear}
+use Rattle.answers.proofs.Checks.{both-clear, clear, check-clear}
 use Rattle.description.specs.declared.Description.{Description}
 use Rattle.description.specs.Limits.{leastDimensions, mostDimensions, leastFields, mostFields, leastCapacity, mostCapacity, outside}
-use Rattle.description.specs.Description.{descriptionRefusal, sidesOf, boxBytes}
+use Rattle.description.specs.Description.{limitsRefusal, retiredRefusal, descriptionRefusal, sidesOf, boxBytes}
 use Rattle.description.proofs.Tests.{neither}
 use Rattle.description.proofs.Sides.{start-most}
 
@@ -35,9 +35,9 @@ pub record Kept (d : Description) : Type 0 where
   pub some-bytes : 8 ≤ boxBytes d
   pub most-bytes : boxBytes d ≤ 64
 
-pub kept : (d : Description) → descriptionRefusal d .number ≡ 0 → Kept d
-unfolding descriptionRefusal boxBytes
-kept d h =
+pub limits-kept : (d : Description) → limitsRefusal d .number ≡ 0 → Kept d
+unfolding limitsRefusal boxBytes
+limits-kept d h =
     let a = clear _ _ h in
     let b = clear _ _ (a .1) in
     let c = clear _ _ (b .1) in
@@ -56,3 +56,6 @@ kept d h =
       some-bytes = omega arith;
       most-bytes = omega arith;
     }
+
+pub kept : (d : Description) → descriptionRefusal d .number ≡ 0 → Kept d
+kept d h = limits-kept d (both-clear (limitsRefusal d) (retiredRefusal d) h .0)

@@ -3,20 +3,20 @@
 use Prim.Native.Nat.{ℕ, min}
 use mathlib.Core.List.{List, [], _∷_}
 use lib.ListN.{getD}
-use Rattle.answers.specs.Refusals.{description}
+use Rattle.answers.specs.Refusals.{description, retired}
 use Rattle.answers.specs.Runs.{sum}
-use Rattle.answers.specs.Checks.{check, first}
+use Rattle.answers.specs.Checks.{check, otherwise, first, each}
 use Rattle.answers.specs.declared.Refusal.{Refusal}
 use Rattle.description.specs.declared.Kind.{Kind}
 use Rattle.description.specs.declared.Kind.the-variants.{Int32}
 use Rattle.description.specs.declared.Dimension.{Dimension}
 use Rattle.description.specs.declared.Description.{Description}
 use Rattle.description.specs.Limits.{leastDimensions, mostDimensions, leastFields, mostFields, leastCapacity, mostCapacity, outside}
-use Rattle.description.specs.Kinds.{rangeBytes}
+use Rattle.description.specs.Kinds.{rangeBytes, isFloat32}
 
 -- 1: description outside the limits
-unfoldable pub descriptionRefusal : Description → Refusal
-descriptionRefusal d = first (
+unfoldable pub limitsRefusal : Description → Refusal
+limitsRefusal d = first (
     check (outside leastDimensions mostDimensions (d .dimensions)) description 0
     ∷ check (outside leastFields mostFields (d .fields)) description 0
     ∷ check (outside leastCapacity mostCapacity (d .capacity)) description 0
@@ -38,3 +38,11 @@ sidesOf dimensions = min dimensions mostDimensions
 -- B, the sum of the box bytes of all dimensions
 unfoldable pub boxBytes : Description → ℕ
 boxBytes d = sideStart (d .kinds) (sidesOf (d .dimensions))
+
+-- 28 at the first float32 dimension
+unfoldable pub retiredRefusal : Description → Refusal
+retiredRefusal d = each (λ i. check (isFloat32 (kindAt (d .kinds) i)) retired i) 0 (sidesOf (d .dimensions))
+
+-- 1, and directly after it 28
+abbrev pub descriptionRefusal : Description → Refusal
+descriptionRefusal d = otherwise (limitsRefusal d) (retiredRefusal d)

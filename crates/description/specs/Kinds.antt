@@ -1,7 +1,7 @@
 -- The kinds: their bytes, and the order of their bit patterns.
 -- Assumes nothing.
 use Prim.Native.Nat.{ℕ}
-use mathlib.Core.Bool.{Bool, false, not, _&&_, cond}
+use mathlib.Core.Bool.{Bool, true, false, not, _&&_, cond}
 use lib.Dec.{leb, eqb}
 use lib.Ieee.{binary32, binary64, nanBits}
 use mir.Syntax.{w32, w64}
@@ -43,6 +43,14 @@ isDatatype n = eqb n (datatype (kindOfDatatype n))
 
 abbrev pub sameKind : Kind → Kind → Bool
 sameKind a b = eqb (datatype a) (datatype b)
+
+-- the kind that dimensions no longer have
+abbrev pub isFloat32 : Kind → Bool
+isFloat32 Int32 = false
+isFloat32 Int64 = false
+isFloat32 Float32 = true
+isFloat32 Float64 = false
+isFloat32 Uint64 = false
 
 -- A pattern's key: a natural number, so that one order serves every kind.
 unfoldable pub key : Kind → ℕ → ℕ

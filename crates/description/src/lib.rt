@@ -2,8 +2,8 @@
 use answers::Refusal;
 ghost use mathlib.Core.Path.{_≡_};
 ghost use Rattle.description.specs.Limits.{leastTiles, mostTiles, leastFanout, mostFanout, outside};
-ghost use Rattle.description.specs.Kinds.{rangeBytes, datatype, kindOfDatatype};
-ghost use Rattle.description.specs.Description.{descriptionRefusal, sidesOf, boxBytes};
+ghost use Rattle.description.specs.Kinds.{rangeBytes, datatype, kindOfDatatype, isFloat32};
+ghost use Rattle.description.specs.Description.{limitsRefusal, retiredRefusal, descriptionRefusal, sidesOf, boxBytes};
 
 pub enum Kind {
     Int32,
@@ -50,6 +50,19 @@ impl Kind {
             Kind::Float32 => 2,
             Kind::Float64 => 3,
             Kind::Uint64 => 10,
+        }
+    }
+
+    // Is it the kind that dimensions no longer have?
+    pub fn is_float32(self) -> bool
+        ensures { λ r. ⌜ r ≡ isFloat32 self ⌝ }
+    {
+        match self {
+            Kind::Int32 => false,
+            Kind::Int64 => false,
+            Kind::Float32 => true,
+            Kind::Float64 => false,
+            Kind::Uint64 => false,
         }
     }
 
@@ -102,9 +115,17 @@ impl Description {
 
     pub const MOST_FANOUT: u32 = 1_024;
 
-    // Refusal 1 at place 0 where D, N or C is outside its limits.
+    // 1, and directly after it 28.
     pub fn check(self) -> Refusal
         ensures { λ r. ⌜ r ≡ descriptionRefusal self ⌝ }
+    {
+        let limits = self.check_limits();
+        limits.or(self.check_retired())
+    }
+
+    // Refusal 1 at place 0 where D, N or C is outside its limits.
+    pub fn check_limits(self) -> Refusal
+        ensures { λ r. ⌜ r ≡ limitsRefusal self ⌝ }
     {
         if outside(
             Description::LEAST_DIMENSIONS,
@@ -128,6 +149,24 @@ impl Description {
             return Refusal::new(Refusal::DESCRIPTION, 0);
         }
         Refusal::none()
+    }
+
+    // 28 at the first float32 dimension.
+    pub fn check_retired(self) -> Refusal
+        ensures { λ r. ⌜ r ≡ retiredRefusal self ⌝ }
+    {
+        let kinds = self.kinds;
+        let n = sides_of(self.dimensions);
+        let mut told = Refusal::none();
+        let mut i: usize = 0;
+        while i < n {
+            let side = kinds[i];
+            let k = side.kind;
+            let here = Refusal::when(k.is_float32(), Refusal::RETIRED, i as u64);
+            told = told.or(here);
+            i += 1;
+        }
+        told
     }
 
     // Is n below or above its limits?

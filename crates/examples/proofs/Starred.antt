@@ -14,7 +14,7 @@ use Rattle.boxes.specs.declared.Window.{Window}
 use Rattle.answers.specs.Checks.{first}
 use Rattle.answers.specs.Runs.{over}
 use Rattle.boxes.specs.Boxes.{boxOf, rangesRefusal, boxInside, boxRefusal, boxMeets}
-use Rattle.description.specs.Description.{descriptionRefusal, sideStart, boxBytes}
+use Rattle.description.specs.Description.{limitsRefusal, retiredRefusal, sideStart, boxBytes}
 use Rattle.description.specs.Kinds.{key, isNan, isInfinite, atMost}
 use Rattle.ranges.specs.Ranges.{endsAt, endsOf, hasNan, inside, meets}
 use Rattle.verdicts.specs.Verdicts.{hasInfinity, isReversed, verdict}
@@ -121,5 +121,5 @@ stated =
     ∷ []
 
 starred : worked ≡ stated
-unfolding first over boxOf rangesRefusal boxInside boxRefusal boxMeets descriptionRefusal sideStart boxBytes key isNan isInfinite atMost endsAt endsOf hasNan hasInfinity isReversed verdict inside meets sideRefusal windowRefusal totalCells entries refusedFooter acceptedFooter entryAnswer noFlag flagIs numberOutside fileOffsetsRefusal entryRefusal start footerBytes listRefusalBy entriesRefusalBy offsetsRefusalBy signedKey little firstOfTwo secondOfTwo frontRefusal sizeRefusal countsRefusal shapeRefusal rootRefusal innerRefusal levelRefusal boxesRefusal bodyRefusal openAnswerBy askedRefusalBy queryRefusalBy meeting queryAnswerBy queryBufferBy up boxes children heightAbove height levels allBoxes boxesAbove levelStart bodyBytes looked found le described footerOf box treeA window asked opened told sized worked stated
+unfolding first over boxOf rangesRefusal boxInside boxRefusal boxMeets limitsRefusal retiredRefusal sideStart boxBytes key isNan isInfinite atMost endsAt endsOf hasNan hasInfinity isReversed verdict inside meets sideRefusal windowRefusal totalCells entries refusedFooter acceptedFooter entryAnswer noFlag flagIs numberOutside fileOffsetsRefusal entryRefusal start footerBytes listRefusalBy entriesRefusalBy offsetsRefusalBy signedKey little firstOfTwo secondOfTwo frontRefusal sizeRefusal countsRefusal shapeRefusal rootRefusal innerRefusal levelRefusal boxesRefusal bodyRefusal openAnswerBy askedRefusalBy queryRefusalBy meeting queryAnswerBy queryBufferBy up boxes children heightAbove height levels allBoxes boxesAbove levelStart bodyBytes looked found le described footerOf box treeA window asked opened told sized worked stated
 starred = refl

@@ -3,22 +3,24 @@
 use mathlib.Core.Path.{_≡_, refl, sym, ap, _∙_}
 use mathlib.Core.Bool.{Bool, true, false}
 use mathlib.Core.List.{List}
-use Prim.Native.Nat.{ℕ, _+_, _-_, _≤_}
+use Prim.Native.Nat.{ℕ, _+_, _-_, _*_, _≤_}
 use native.Mathlib.Omega.{arith}
 use lib.Dec.{eqb}
 use lib.ListN.{length, take, drop}
 use borrow.Author.Tests.{eq-eqb, ne-eqb, eqb-true, ltb-false, not-false}
+use Rattle.answers.specs.Refusals as refusals
 use Rattle.answers.specs.Refusals.{none}
 use Rattle.answers.specs.Checks.{otherwise, first}
 use Rattle.answers.proofs.Checks.{clear, check-clear, both-clear}
 use Rattle.description.specs.declared.Description.{Description}
-use Rattle.description.specs.Limits.{leastName, mostName}
-use Rattle.description.specs.Description.{sidesOf, boxBytes}
+use Rattle.description.specs.Limits.{leastVersion, mostVersion, leastName, mostName}
+use Rattle.description.specs.Description.{sidesOf, boxBytes, limitsRefusal}
 use Rattle.description.specs.Rules.{current}
 use Rattle.boxes.specs.Boxes.{rangesRefusal}
-use Rattle.description.proofs.Limits.{within, Kept, kept}
+use Rattle.description.proofs.Limits.{within, Kept, limits-kept}
 use Rattle.footer.specs.declared.Checked.{Checked}
-use Rattle.footer.specs.Fields.{start, footerBytes, nameSizeOf, numberOf, tilesOf, lastCellsOf, domainBytes, numberOutside}
+use Rattle.footer.specs.Fields.{start, footerBytes, nameSizeOf, numberOf, tilesOf, lastCellsOf, domainBytes}
+use Rattle.footer.specs.Fields.{noFlag, flagIs, numberOutside, fileOffsetsRefusal}
 use Rattle.footer.specs.declared.Entry.{Entry}
 use Rattle.footer.specs.Checks.{sparseBy, entryRefusal, footerRefusal}
 use Rattle.footer.specs.Code.Places.{headChecks, sizeChecks, checksBeforeTiles, checksFromTiles}
@@ -30,7 +32,10 @@ use Rattle.footer.proofs.Parts.{footer-parts}
 
 -- what the checks before any other field leave
 pub record Head (d : Description) (footer : List ℕ) : Type 0 where
+  pub limits : limitsRefusal d .number ≡ 0
   pub description : Kept d
+  pub version : numberOutside footer 4 leastVersion mostVersion refusals.version (start d footer "version") .number ≡ 0
+  pub name-size : numberOutside footer 8 leastName mostName refusals.nameSize (start d footer "name size") .number ≡ 0
   pub some-name : leastName ≤ nameSizeOf footer
   pub most-name : nameSizeOf footer ≤ mostName
 
@@ -44,7 +49,14 @@ module _ (entry : Entry) (d : Description) (F : ℕ) (footer : List ℕ) where
       let f = clear _ _ (e .1) in
       let g = clear _ _ (f .1) in
       let n = within leastName mostName (nameSizeOf footer) (check-clear _ _ _ (omega arith) (g .0)) in
-      record { description = kept d (a .0); some-name = n .0; most-name = n .1 }
+      record {
+        limits = a .0;
+        description = limits-kept d (a .0);
+        version = f .0;
+        name-size = g .0;
+        some-name = n .0;
+        most-name = n .1;
+      }
 
   pub sizes-passed : first (sizeChecks entry d footer F) .number ≡ 0 → (length footer ≡ footerBytes d footer) × (footerBytes d footer ≤ F)
   sizes-passed h =
@@ -56,11 +68,19 @@ module _ (entry : Entry) (d : Description) (F : ℕ) (footer : List ℕ) where
     pub head : Head d footer
     pub all-bytes : length footer ≡ footerBytes d footer
     pub in-file : footerBytes d footer ≤ F
+    pub dense : noFlag footer (start d footer "dense") .number ≡ 0
+    pub not-flag : flagIs footer (entry .flag) refusals.dense (start d footer "dense") .number ≡ 0
+    pub null-domain : noFlag footer (start d footer "null domain") .number ≡ 0
+    pub not-null : flagIs footer 1 refusals.nullDomain (start d footer "null domain") .number ≡ 0
     -- the domain has no NaN and no reversed range
     pub ranges : rangesRefusal (d .kinds) (sidesOf (d .dimensions)) (domainBytes d footer) (start d footer "domain") .number ≡ 0
     pub some-tiles : entry .least ≤ tilesOf d footer
     pub most-tiles : tilesOf d footer ≤ entry .most
     pub last : entry .cells ≡ true → (1 ≤ lastCellsOf d footer) × (lastCellsOf d footer ≤ d .capacity)
+    pub timestamps : noFlag footer (start d footer "timestamps") .number ≡ 0
+    pub deletes : noFlag footer (start d footer "deletes") .number ≡ 0
+    -- every offset is below the footer's place in the file
+    pub offsets : fileOffsetsRefusal footer (F - footerBytes d footer) (8 * d .fields + 3) (start d footer "R-tree") .number ≡ 0
     -- the length field reads 8 less than the footer's bytes
     pub length-field : numberOf d footer "length" + 8 ≡ footerBytes d footer
 
@@ -89,10 +109,17 @@ module _ (entry : Entry) (d : Description) (F : ℕ) (footer : List ℕ) where
         head = head-passed (b .0);
         all-bytes = size .0;
         in-file = size .1;
+        dense = l1 .0;
+        not-flag = l2 .0;
+        null-domain = l3 .0;
+        not-null = l4 .0;
         ranges = l5 .0;
         some-tiles = tiles .0;
         most-tiles = tiles .1;
         last = λ has. within 1 (d .capacity) (lastCellsOf d footer) (check-clear _ _ _ (omega arith) (rw has at (l7 .0)));
+        timestamps = l8 .0;
+        deletes = l9 .0;
+        offsets = l10 .0;
         length-field = omega (arith, reads, footer-bytes d footer);
       }
 

@@ -1,6 +1,7 @@
 -- What does a footer answer by other rules? By two that agree on the description and on the footer's own n, the same,
--- refusals too: the rules are asked in two checks of the list and nowhere else. For at most 65,536 tiles this is so of the
--- rules of this library and of the earlier ones (`as-before`). An n above the most tiles is refused with 10 at its start
+-- refusals too: the rules are asked in two checks of the list and nowhere else. Without a float32 dimension this is so of
+-- the rules of this library and of those just before float32 was retired (`unmoved`), and for at most 65,536 tiles of the
+-- earlier ones (`as-before`). An n above the most tiles is refused with 10 at its start
 -- once no check before it refuses; what comes after it is not looked at (`too-many`).
 -- Assumes nothing.
 use mathlib.Core.Path.{_≡_, _∙_}
@@ -16,10 +17,10 @@ use Rattle.answers.specs.declared.Refusal.{Refusal}
 use Rattle.answers.proofs.Checks.{go-on, both-clear, clear, check-clear, stop-check, first-append}
 use Rattle.description.specs.declared.Description.{Description}
 use Rattle.description.specs.Limits.{leastTiles, outside}
-use Rattle.description.specs.Rules.{Rules, current, earlier}
+use Rattle.description.specs.Rules.{Rules, current, before, earlier}
 use Rattle.description.proofs.Tests.{or-true}
 use Rattle.description.proofs.Limits.{within}
-use Rattle.description.proofs.Rules.{Agree, few}
+use Rattle.description.proofs.Rules.{Agree, Unretired, unretired, few}
 use Rattle.footer.specs.Fields.{numberOutside, fieldsOf, until, from, start, tilesOf}
 use Rattle.footer.specs.Checks.{sparseBy, frontChecks, checksOf, entryRefusal, footerRefusalBy}
 use Rattle.footer.specs.Answer.{entryChecked, entryAnswer, entryName}
@@ -59,10 +60,10 @@ pub record SameAnswers (others : Rules) (d : Description) (F : ℕ) (footer : Li
   pub cells : (i : ℕ) → tileCells d F footer i ≡ tileCellsBy others d F footer i
   pub total : allCells d F footer ≡ allCellsBy others d F footer
 
--- A footer that says at most 65,536 tiles is answered as before, refusals too.
-pub as-before : (d : Description) (F : ℕ) (footer : List ℕ) → tilesOf d footer ≤ earlier .tiles → SameAnswers earlier d F footer
-as-before d F footer h =
-    let same = few d (tilesOf d footer) h in
+-- by rules that agree with this library's on the footer's own n
+pub same-answers : {others : Rules} (d : Description) (F : ℕ) (footer : List ℕ) → Agree current others d (tilesOf d footer)
+    → SameAnswers others d F footer
+same-answers d F footer same =
     record {
       checked = same-checked d F footer same;
       numbers = same-footer d F footer same;
@@ -70,6 +71,14 @@ as-before d F footer h =
       cells = same-cells d F footer same;
       total = same-total d F footer same;
     }
+
+-- Without a float32 dimension a footer is answered as just before float32 was retired, refusals too.
+pub unmoved : (d : Description) (F : ℕ) (footer : List ℕ) → Unretired d → SameAnswers before d F footer
+unmoved d F footer u = same-answers d F footer (unretired d (tilesOf d footer) u)
+
+-- And one that says at most 65,536 tiles is answered as with the earlier limit.
+pub as-before : (d : Description) (F : ℕ) (footer : List ℕ) → Unretired d → tilesOf d footer ≤ earlier .tiles → SameAnswers earlier d F footer
+as-before d F footer u h = same-answers d F footer (few d (tilesOf d footer) u h)
 
 module _ (rules : Rules) (d : Description) (F : ℕ) (footer : List ℕ) where
   -- the checks before n, in their order

@@ -9,7 +9,7 @@ use Rattle.answers.specs.Checks.{first}
 use Rattle.answers.specs.declared.Refusal.{Refusal}
 use Rattle.description.specs.declared.Description.{Description}
 use Rattle.description.specs.Limits.{leastTiles}
-use Rattle.description.specs.Description.{descriptionRefusal}
+use Rattle.description.specs.Description.{limitsRefusal}
 use Rattle.description.specs.Rules.{Rules, current}
 use Rattle.footer.specs.declared.Entry.{Entry}
 use Rattle.footer.specs.Fields.{wrongBytes, Field, fieldsOf, start, footerBytes}
@@ -23,7 +23,7 @@ sparseBy rules d = sparse (rules .further d) (rules .tiles)
 
 -- 1, and what the entry says after it; fewer than 12 bytes, 2
 abbrev pub frontChecks : Entry → Description → List ℕ → List Refusal
-frontChecks entry d footer = descriptionRefusal d ∷ entry .further ∷ wrongBytes footer (ltb (length footer) 12) ∷ []
+frontChecks entry d footer = limitsRefusal d ∷ entry .further ∷ wrongBytes footer (ltb (length footer) 12) ∷ []
 
 module _ (entry : Entry) (d : Description) (F : ℕ) (footer : List ℕ) where
   -- what is said of fields, one after the other, each by its start

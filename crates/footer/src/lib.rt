@@ -87,7 +87,7 @@ pub fn check(description: Description, file_size: u64, bytes: &[u8]) -> Checked
     ensures { λ r. ⌜ r ≡ checkedAnswer description «file_size» (now (bytes .entry)) ⌝ }
 {
     check_by(
-        Entry::sparse(Refusal::none()),
+        Entry::sparse(description.check_retired()),
         description,
         file_size,
         bytes,
@@ -159,7 +159,7 @@ fn check_head(entry: Entry, description: Description, bytes: &[u8]) -> Refusal
         order::u32_at(bytes, 0) as u64,
     );
     description
-        .check()
+        .check_limits()
         .or(further)
         .or(Refusal::when(n < 12, Refusal::BYTES, n as u64))
         .or(Refusal::when(unknown, Refusal::VERSION, 0))

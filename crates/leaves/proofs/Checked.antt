@@ -18,7 +18,7 @@ use Rattle.description.specs.declared.Description.{Description}
 use Rattle.description.specs.Description.{boxBytes}
 use Rattle.tree.specs.Shape.{bodyBytes}
 use Rattle.written.specs.Body.{writtenBox, writtenBody}
-use Rattle.written.specs.Writing.{refusedWriting, lengthTold, sizesRefusal, leafRefusal, writeRefusal, writeAnswer}
+use Rattle.written.specs.Writing.{refusedWriting, lengthTold, sizesRefusal, leafRefusal, writeRefusal, writeRefusalBy, writeAnswer, writeAnswerBy}
 use Rattle.written.proofs.Tree.{Cleared, sizes-clear, written-length}
 use Rattle.leaves.specs.Code.Sound.{leavesRefusal}
 
@@ -28,20 +28,20 @@ module _ (d : Description) (n f : ℕ) (leaves : List ℕ) (room : ℕ) where
 
   -- a refusal, and none
   told-refused : (r : Refusal) → writeRefusal d n f leaves room ≡ r → (r .number ≡ 0 → ⊥) → refusedWriting r ≡ writeAnswer d n f leaves room
-  unfolding writeAnswer
+  unfolding writeAnswerBy
   told-refused r e h = rw (e, ne-eqb (r .number) 0 h)
 
   told-length : writeRefusal d n f leaves room ≡ none → lengthTold (length (writtenBody d n f leaves)) ≡ writeAnswer d n f leaves room
-  unfolding writeAnswer
+  unfolding writeAnswerBy
   told-length e = rw e
 
   pub by-sizes : (sizesRefusal d n f .number ≡ 0 → ⊥) → refusedWriting (sizesRefusal d n f) ≡ writeAnswer d n f leaves room
-  unfolding writeRefusal
+  unfolding writeRefusalBy
   by-sizes h = told-refused _ (stop _ _ h) h
 
   module _ (sizes : sizesRefusal d n f .number ≡ 0) where
     pub by-bytes : (length leaves ≡ n * boxBytes d → ⊥) → refusedWriting (refusal refusals.bytes (length leaves)) ≡ writeAnswer d n f leaves room
-    unfolding writeRefusal
+    unfolding writeRefusalBy
     by-bytes h =
         let t = ne-eqb (length leaves) (n * boxBytes d) h in
         told-refused _
@@ -53,7 +53,7 @@ module _ (d : Description) (n f : ℕ) (leaves : List ℕ) (room : ℕ) where
     module _ (whole : length leaves ≡ n * boxBytes d) where
       to-leaves : writeRefusal d n f leaves room
           ≡ first (leavesRefusal d n leaves ∷ roomCheck ∷ [])
-      unfolding writeRefusal leavesRefusal writtenBox
+      unfolding writeRefusalBy leavesRefusal writtenBox
       to-leaves =
           past _ _ sizes
           ∙ past-check (not (eqb (length leaves) (n * boxBytes d))) refusals.bytes (length leaves)

@@ -57,7 +57,7 @@ pub fn body_length(description: Description, tiles: u64, fanout: u64) -> Written
     length_told(shape.bytes)
 }
 
-// 1, 10, 13.
+// 1, 28, 10, 13.
 fn check_sizes(description: Description, tiles: u64, fanout: u64) -> Refusal
     ensures { λ r. ⌜ r ≡ sizesRefusal description tiles fanout ⌝ }
 {

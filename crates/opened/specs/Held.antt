@@ -7,19 +7,28 @@ use mathlib.Core.List.{List, []}
 use lib.Dec.{eqb}
 use denote.Ref.{now}
 use Rattle.description.specs.declared.Description.{Description}
+use Rattle.description.specs.Rules.{Rules, current}
 use Rattle.boxes.specs.declared.Window.{Window}
 use Rattle.query.specs.declared.Answer.{Answer}
 use Rattle.query.specs.Query.{queryAnswer, queryBuffer, flatCountOf, Lists, Bounded}
 use Rattle.opened.specs.declared.OpenTree.{OpenTree}
-use Rattle.rtree.specs.Opening.{openAnswer}
+use Rattle.rtree.specs.Opening.{openAnswerBy}
 
-module _ (d : Description) (F : ℕ) (footer body : List ℕ) where
+module _ (rules : Rules) (d : Description) (F : ℕ) (footer body : List ℕ) where
   -- n, which is 0 where opening is refused
+  abbrev pub heldTilesBy : ℕ
+  heldTilesBy = openAnswerBy rules d F footer body .tiles
+
+  abbrev pub heldBodyBy : List ℕ
+  heldBodyBy = cond (eqb (openAnswerBy rules d F footer body .number) 0) body []
+
+-- by the rules of this library
+module _ (d : Description) (F : ℕ) (footer body : List ℕ) where
   abbrev pub heldTiles : ℕ
-  heldTiles = openAnswer d F footer body .tiles
+  heldTiles = heldTilesBy current d F footer body
 
   abbrev pub heldBody : List ℕ
-  heldBody = cond (eqb (openAnswer d F footer body .number) 0) body []
+  heldBody = heldBodyBy current d F footer body
 
   abbrev pub Holds : OpenTree → Type 0
   Holds t = (now (t .body) ≡ heldBody) × ((t .tiles ≡ heldTiles) × (t .description ≡ d))

@@ -15,7 +15,13 @@ ghost use Rattle.opening.specs.Code.Stored.{runRefusal, tableRefusal, Ru
 pub fn open(description: Description, file_size: u64, footer: &[u8], body: &[u8]) -> Opened
     ensures { λ r. ⌜ r ≡ openAnswer description «file_size» (now (footer .entry)) (now (body .entry)) ⌝ }
 {
-    open_by(Refusal::none(), description, file_size, footer, body)
+    open_by(
+        description.check_retired(),
+        description,
+        file_size,
+        footer,
+        body,
+    )
 }
 
 // The same by what is said of the description after 1. All else is a sparse fragment's, since no other has a tree.

@@ -1,39 +1,41 @@
 -- 21 is given exactly where it is due. Where all checks before it pass and the work buffer is short, the answer is 21
--- (`due-said`). And where the answer is 21 they passed and it is short (`said-due`): no check of a footer has that number
--- (`footer-other`), what is shown has it only there (`shown-due`), and every other answer about a footer that passed
--- counts in the body, or is no refusal.
+-- (`due-said`). And where the answer's number is 21 they passed and it is short (`work-due`, `said-due`): no check of a
+-- footer or of a body has that number (`footer-other`, `body-other`), and what is shown has it only there
+-- (`shown-due`). So where the blocks add up to the stated length and 21 isn't due, opening the whole is answered
+-- (`undue-whole`).
 -- Assumes nothing.
-use mathlib.Core.Path.{_≡_, refl, ap, sym, _∙_}
+use mathlib.Core.Path.{_≡_, refl, ap, _∙_}
 use mathlib.Core.Bool.{Bool, true, false, not, _&&_, cond}
 use mathlib.Core.List.{List, [], _∷_}
-use Prim.Native.Nat.{ℕ, _-_, _≤_, _<_, min}
+use Prim.Native.Nat.{ℕ, _-_, _≤_, min}
 use native.Mathlib.Omega.{arith}
 use lib.Dec.{ltb, leb, eqb}
 use lib.ListN.{length}
-use borrow.Author.Tests.{eq-eqb, ne-eqb, le-leb, lt-leb, le-ltb, lt-ltb, leb-true, leb-false, ltb-true, ltb-false, eqb-true, eqb-false, not-false}
+use borrow.Author.Tests.{eq-eqb, le-leb, lt-leb, le-ltb, lt-ltb, leb-true, leb-false, ltb-true, ltb-false, eqb-true, eqb-false, not-false}
 use Rattle.answers.specs.Refusals as refusals
-use Rattle.answers.specs.Runs.{over}
-use Rattle.answers.specs.Checks.{check, otherwise, first, each}
+use Rattle.answers.specs.Checks.{check, first}
 use Rattle.answers.specs.declared.Refusal.{Refusal}
-use Rattle.answers.proofs.Checks.{each-has}
+use Rattle.answers.proofs.Checks.{either, each-has}
 use Rattle.description.specs.declared.Description.{Description}
 use Rattle.description.specs.declared.Dimension.{Dimension}
-use Rattle.description.specs.Description.{boxBytes, descriptionRefusal}
+use Rattle.description.specs.Description.{kindAt, sidesOf, boxBytes, limitsRefusal, retiredRefusal}
+use Rattle.description.specs.Kinds.{isFloat32}
 use Rattle.description.specs.Limits.{leastFanout, mostFanout, outside}
 use Rattle.description.proofs.Limits.{within, not-outside}
 use Rattle.verdicts.specs.declared.Verdict.{Verdict}
 use Rattle.verdicts.specs.declared.Verdict.the-variants.{Sound, Infinite, InfiniteReversed, NotANumber, Reversed}
 use Rattle.verdicts.specs.Verdicts.{storedRefusal}
-use Rattle.boxes.specs.Boxes.{rangesRefusal}
+use Rattle.boxes.specs.Boxes.{rangesRefusal, boxInside, boxRefusal}
 use Rattle.tree.specs.Shape.{boxes, height, levels, levelStart, bodyBytes}
 use Rattle.footer.specs.Fields.{tilesOf, domainBytes, numberOutside, noFlag, flagIs, fileOffsetsRefusal}
 use Rattle.footer.specs.Checks.{footerRefusal, entryRefusal}
 use Rattle.rtree.specs.declared.Opened.{Opened}
-use Rattle.rtree.specs.Body.{fanoutOf, levelsOf, countPlace, storedCount}
-use Rattle.rtree.specs.Opening.{bodyRefusal, refusedIn, openAnswer, openAnswerBy}
+use Rattle.rtree.specs.Body.{fanoutOf, levelsOf, countPlace, storedCount, frontRefusal, sizeRefusal, countsRefusal, shapeRefusal}
+use Rattle.rtree.specs.Opening.{rootRefusal, innerRefusal, levelRefusal, boxesRefusal, bodyRefusal, refusedIn, openAnswer, openAnswerBy}
 use Rattle.parts_state.specs.Parts.{innerBytes, frontShown, countShown, countsShown, shownRefusal, partsAnswer}
 use Rattle.parts_state.specs.Took.{Due}
 use Rattle.parts_state.proofs.Shown.{shown, say-footer, say-shown, say-open, say-other}
+use Rattle.parts_state.proofs.Whole.{whole}
 
 -- no check of a footer says 21
 record Other (r : Refusal) : Type 0 where
@@ -65,11 +67,17 @@ verdict-other InfiniteReversed place = record { never = λ z. omega arith }
 verdict-other NotANumber place = record { never = λ z. omega arith }
 verdict-other Reversed place = record { never = λ z. omega arith }
 
-described-other : (d : Description) → Other (descriptionRefusal d)
-unfolding descriptionRefusal
-described-other d =
+limits-other : (d : Description) → Other (limitsRefusal d)
+unfolding limitsRefusal
+limits-other d =
     let description-other : refusals.description ≡ refusals.work → ⊥ = λ z. omega arith in
     search (next-other, check-other, last-other, description-other)
+
+retired-other : (d : Description) → Other (retiredRefusal d)
+unfolding retiredRefusal
+retired-other d =
+    each-has Other _ 0 (sidesOf (d .dimensions)) none-other
+    (λ i low high. check-other (isFloat32 (kindAt (d .kinds) i)) refusals.retired i (λ z. omega arith))
 
 ranges-other : (kinds : List Dimension) (m : ℕ) (bytes : List ℕ) (place : ℕ) → Other (rangesRefusal kinds m bytes place)
 unfolding rangesRefusal
@@ -92,7 +100,38 @@ footer-other d F footer =
     let null-domain-other : refusals.nullDomain ≡ refusals.work → ⊥ = λ z. omega arith in
     let tiles-other : refusals.tiles ≡ refusals.work → ⊥ = λ z. omega arith in
     let last-cells-other : refusals.lastCells ≡ refusals.work → ⊥ = λ z. omega arith in
-    search (next-other, none-other, check-other, last-other, described-other, ranges-other, offsets-other, bytes-other, version-other, name-size-other, flag-other, dense-other, null-domain-other, tiles-other, last-cells-other) depth 60
+    search (next-other, none-other, check-other, last-other, limits-other, retired-other, ranges-other, offsets-other, bytes-other, version-other, name-size-other, flag-other, dense-other, null-domain-other, tiles-other, last-cells-other) depth 60
+
+-- and none of a body
+stored-other : (f n b : ℕ) (stored : ℕ → ℕ) → Other (countsRefusal f n b stored)
+unfolding countsRefusal
+stored-other f n b stored =
+    let levels-other : refusals.levels ≡ refusals.work → ⊥ = λ z. omega arith in
+    each-has Other _ 0 (levels f n) none-other (λ l low high. search (check-other, levels-other))
+
+shape-other : (n b : ℕ) (body : List ℕ) → Other (shapeRefusal n b body)
+unfolding shapeRefusal frontRefusal sizeRefusal
+shape-other n b body =
+    let bytes-other : refusals.bytes ≡ refusals.work → ⊥ = λ z. omega arith in
+    let fanout-other : refusals.fanout ≡ refusals.work → ⊥ = λ z. omega arith in
+    let levels-other : refusals.levels ≡ refusals.work → ⊥ = λ z. omega arith in
+    search (next-other, check-other, last-other, stored-other, bytes-other, fanout-other, levels-other)
+
+box-other : (kinds : List Dimension) (m : ℕ) (bytes outer : List ℕ) (number place : ℕ) → (number ≡ refusals.work → ⊥)
+    → Other (boxRefusal kinds m bytes outer number place)
+unfolding boxRefusal
+box-other kinds m bytes outer number place o =
+    either Other (rangesRefusal kinds m bytes place) _ (ranges-other kinds m bytes place)
+    (check-other (not (boxInside kinds m bytes outer)) number place o)
+
+body-other : (d : Description) (n : ℕ) (domain body : List ℕ) → Other (bodyRefusal d n domain body)
+unfolding bodyRefusal boxesRefusal rootRefusal levelRefusal innerRefusal
+body-other d n domain body =
+    let outside-other : refusals.outsideParent ≡ refusals.work → ⊥ = λ z. omega arith in
+    either Other (shapeRefusal n (boxBytes d) body) _ (shape-other n (boxBytes d) body)
+    (either Other (rootRefusal d n body domain) _ (box-other _ _ _ _ _ _ (λ z. omega arith))
+    (each-has Other _ 0 (height (fanoutOf body) n) none-other
+    (λ l low high. each-has Other _ 0 _ none-other (λ k from to. box-other _ _ _ _ _ _ outside-other))))
 
 module _ (d : Description) (F : ℕ) (footer : List ℕ) (stated room : ℕ) (got : List ℕ) where
   abbrev n : ℕ
@@ -201,35 +240,33 @@ module _ (d : Description) (F : ℕ) (footer : List ℕ) (stated room : ℕ) (go
       small true a = absurd (omega (arith, rw a at z))
       small false a = known-is (leb 4 have) refl a
 
-  passed-due : footerRefusal d F footer .number ≡ 0 → partsAnswer d F footer stated room got ≡ short → Due d F footer stated room got
+  open-other : footerRefusal d F footer .number ≡ 0 → openAnswer d F footer got .number ≡ refusals.work → ⊥
   unfolding openAnswerBy
-  passed-due ok e = go (eqb (told .number) refusals.work) refl
+  open-other ok z = go (eqb (bodyRefusal d n (domainBytes d footer) got .number) 0) refl
     where
-      opened : openAnswer d F footer got ≡ short → ⊥
-      opened h = body (eqb (bodyRefusal d n (domainBytes d footer) got .number) 0) refl
-        where
-          body : (t : Bool) → eqb (bodyRefusal d n (domainBytes d footer) got .number) 0 ≡ t → ⊥
-          body true q = omega (arith, ap (λ (o : Opened). o .number) (rw (eq-eqb _ 0 ok, q) at h))
-          body false q = omega (arith, ap (λ (o : Opened). o .which) (rw (eq-eqb _ 0 ok, q) at h))
+      go : (t : Bool) → eqb (bodyRefusal d n (domainBytes d footer) got .number) 0 ≡ t → ⊥
+      go true q = omega (arith, rw (eq-eqb _ 0 ok, q) at z)
+      go false q = body-other d n (domainBytes d footer) got .never (rw (eq-eqb _ 0 ok, q) at z)
 
-      rest : (t : Bool) → eqb (length got) stated ≡ t → told .number ≡ 0 → ⊥
-      rest true q z = opened (sym (say-open d F footer stated room got ok z (eqb-true _ _ q)) ∙ e)
-      rest false q z =
-          omega (arith, ap (λ (o : Opened). o .which) (sym (say-other d F footer stated room got ok z (eqb-false _ _ q)) ∙ e))
-
-      other : (t : Bool) → eqb (told .number) 0 ≡ t → (told .number ≡ refusals.work → ⊥) → ⊥
-      other true q o = rest (eqb (length got) stated) refl (eqb-true _ 0 q)
-      other false q o = o (ap (λ (x : Opened). x .number) (sym (say-shown d F footer stated room got ok (eqb-false _ 0 q)) ∙ e))
-
-      go : (t : Bool) → eqb (told .number) refusals.work ≡ t → Due d F footer stated room got
-      go true q = shown-due ok (eqb-true _ _ q)
-      go false q = absurd (other (eqb (told .number) 0) refl (eqb-false _ _ q))
+  -- the number alone tells it
+  pub work-due : partsAnswer d F footer stated room got .number ≡ refusals.work → Due d F footer stated room got
+  work-due z = go (eqb (footerRefusal d F footer .number) 0) refl (eqb (told .number) 0) refl (eqb (length got) stated) refl
+    where
+      go : (t : Bool) → eqb (footerRefusal d F footer .number) 0 ≡ t → (u : Bool) → eqb (told .number) 0 ≡ u
+          → (v : Bool) → eqb (length got) stated ≡ v → Due d F footer stated room got
+      go false e u q v l = absurd (footer-other d F footer .never (rw (say-footer d F footer stated room got (eqb-false _ 0 e)) at z))
+      go true e false q v l = shown-due (eqb-true _ 0 e) (rw (say-shown d F footer stated room got (eqb-true _ 0 e) (eqb-false _ 0 q)) at z)
+      go true e true q true l =
+          let opens = say-open d F footer stated room got (eqb-true _ 0 e) (eqb-true _ 0 q) (eqb-true _ _ l) in
+          absurd (open-other (eqb-true _ 0 e) (rw opens at z))
+      go true e true q false l =
+          let other = say-other d F footer stated room got (eqb-true _ 0 e) (eqb-true _ 0 q) (eqb-false _ _ l) in
+          absurd (omega (arith, rw other at z))
 
   pub said-due : partsAnswer d F footer stated room got ≡ short → Due d F footer stated room got
-  said-due e = go (eqb (footerRefusal d F footer .number) 0) refl
-    where
-      go : (t : Bool) → eqb (footerRefusal d F footer .number) 0 ≡ t → Due d F footer stated room got
-      go true q = passed-due (eqb-true _ 0 q) e
-      go false q =
-          absurd (footer-other d F footer .never
-          (ap (λ (x : Opened). x .number) (sym (say-footer d F footer stated room got (eqb-false _ 0 q)) ∙ e)))
+  said-due e = work-due (ap (λ (x : Opened). x .number) e)
+
+  -- Where the blocks add up to the stated length and 21 isn't due, opening the whole.
+  pub undue-whole : (Due d F footer stated room got → ⊥) → length got ≡ stated
+      → partsAnswer d F footer stated room got ≡ openAnswer d F footer got
+  undue-whole undue all = whole d F footer stated room got all (λ z. undue (work-due z))

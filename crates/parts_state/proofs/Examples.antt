@@ -11,7 +11,7 @@ use Rattle.order.specs.Key.{signedKey}
 use Rattle.order.specs.Little.{little, firstOfTwo, secondOfTwo}
 use Rattle.description.specs.declared.Description.{Description}
 use Rattle.description.specs.declared.Kind.the-variants.{Int32}
-use Rattle.description.specs.Description.{descriptionRefusal, sideStart, boxBytes}
+use Rattle.description.specs.Description.{limitsRefusal, retiredRefusal, sideStart, boxBytes}
 use Rattle.description.specs.Kinds.{key, isNan, isInfinite, atMost}
 use Rattle.ranges.specs.Ranges.{endsAt, endsOf, hasNan, inside}
 use Rattle.verdicts.specs.Verdicts.{hasInfinity, isReversed, verdict}
@@ -21,7 +21,7 @@ use Rattle.footer.specs.Checks.{entryRefusal}
 use Rattle.tree.specs.Shape.{up, boxes, heightAbove, height, levels, allBoxes, boxesAbove, levelStart, bodyBytes}
 use Rattle.rtree.specs.Body.{frontRefusal, sizeRefusal, countsRefusal, shapeRefusal}
 use Rattle.rtree.specs.Opening.{rootRefusal, innerRefusal, levelRefusal, boxesRefusal, bodyRefusal, openAnswerBy}
-use Rattle.parts_state.specs.Parts.{frontShown, countsShown, shownRefusal, partsAnswer}
+use Rattle.parts_state.specs.Parts.{frontShown, countsShown, shownRefusal, partsAnswer, partsAnswerBy}
 
 -- a number as little-endian bytes
 le : ℕ → ℕ → List ℕ
@@ -85,5 +85,5 @@ stated =
     ∷ []
 
 pub in-parts : worked ≡ stated
-unfolding first over rangesRefusal boxInside boxRefusal descriptionRefusal sideStart boxBytes key isNan isInfinite atMost endsAt endsOf hasNan hasInfinity isReversed verdict inside noFlag flagIs numberOutside fileOffsetsRefusal entryRefusal start footerBytes signedKey little firstOfTwo secondOfTwo frontRefusal sizeRefusal countsRefusal shapeRefusal rootRefusal innerRefusal levelRefusal boxesRefusal bodyRefusal openAnswerBy up boxes heightAbove height levels allBoxes boxesAbove levelStart bodyBytes frontShown countsShown shownRefusal partsAnswer le described box footerA treeA told worked stated
+unfolding first over rangesRefusal boxInside boxRefusal limitsRefusal retiredRefusal sideStart boxBytes key isNan isInfinite atMost endsAt endsOf hasNan hasInfinity isReversed verdict inside noFlag flagIs numberOutside fileOffsetsRefusal entryRefusal start footerBytes signedKey little firstOfTwo secondOfTwo frontRefusal sizeRefusal countsRefusal shapeRefusal rootRefusal innerRefusal levelRefusal boxesRefusal bodyRefusal openAnswerBy up boxes heightAbove height levels allBoxes boxesAbove levelStart bodyBytes frontShown countsShown shownRefusal partsAnswerBy le described box footerA treeA told worked stated
 in-parts = refl

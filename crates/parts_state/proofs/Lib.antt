@@ -4,4 +4,5 @@ pub mod Whole
 pub mod Starts
 pub mod Chained
 pub mod Dues
+pub mod Rules
 pub mod Examples

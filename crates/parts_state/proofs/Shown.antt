@@ -23,7 +23,7 @@ use Rattle.footer.specs.Checks.{footerRefusal}
 use Rattle.rtree.specs.declared.Opened.{Opened}
 use Rattle.rtree.specs.Body.{fanoutOf, countPlace, storedCount}
 use Rattle.rtree.specs.Opening.{openAnswer, refusedIn}
-use Rattle.parts_state.specs.Parts.{frontShown, countShown, countsShown, shownRefusal, whichOf, partsAnswer}
+use Rattle.parts_state.specs.Parts.{frontShown, countShown, countsShown, shownRefusal, whichOf, partsAnswer, partsAnswerBy}
 
 module _ (d : Description) (F : ℕ) (footer : List ℕ) (stated room : ℕ) (body : List ℕ) where
   abbrev have : ℕ
@@ -36,17 +36,17 @@ module _ (d : Description) (F : ℕ) (footer : List ℕ) (stated room : ℕ) (bo
   answer = partsAnswer d F footer stated room body
 
   pub say-footer : (footerRefusal d F footer .number ≡ 0 → ⊥) → answer ≡ refusedIn 0 (footerRefusal d F footer)
-  unfolding partsAnswer
+  unfolding partsAnswerBy
   say-footer h = rw (ne-eqb (footerRefusal d F footer .number) 0 h)
 
   module _ (ok : footerRefusal d F footer .number ≡ 0) where
     pub say-shown : (shown .number ≡ 0 → ⊥) → answer ≡ refusedIn (whichOf (shown .number)) shown
-    unfolding partsAnswer
+    unfolding partsAnswerBy
     say-shown h = rw (eq-eqb (footerRefusal d F footer .number) 0 ok, ne-eqb (shown .number) 0 h)
 
     module _ (none : shown .number ≡ 0) where
       pub say-open : length body ≡ stated → answer ≡ openAnswer d F footer body
-      unfolding partsAnswer
+      unfolding partsAnswerBy
       say-open h =
           rw (
             eq-eqb (footerRefusal d F footer .number) 0 ok,
@@ -55,7 +55,7 @@ module _ (d : Description) (F : ℕ) (footer : List ℕ) (stated room : ℕ) (bo
           )
 
       pub say-other : (length body ≡ stated → ⊥) → answer ≡ refusedIn 1 (refusals.refusal refusals.bytes have)
-      unfolding partsAnswer
+      unfolding partsAnswerBy
       say-other h =
           rw (
             eq-eqb (footerRefusal d F footer .number) 0 ok,

@@ -11,13 +11,14 @@ use Rattle.answers.specs.Checks.{check, otherwise, first, each}
 use Rattle.answers.specs.declared.Refusal.{Refusal}
 use Rattle.description.specs.declared.Description.{Description}
 use Rattle.description.specs.Description.{boxBytes}
+use Rattle.description.specs.Rules.{Rules, current}
 use Rattle.description.specs.Limits.{leastFanout, mostFanout, outside}
 use Rattle.tree.specs.Shape.{boxes, boxesAbove, height, levels, levelStart, bodyBytes}
 use Rattle.footer.specs.Fields.{tilesOf}
-use Rattle.footer.specs.Checks.{footerRefusal}
+use Rattle.footer.specs.Checks.{footerRefusalBy}
 use Rattle.rtree.specs.declared.Opened.{Opened}
 use Rattle.rtree.specs.Body.{fanoutOf, levelsOf, countPlace, storedCount}
-use Rattle.rtree.specs.Opening.{openAnswer, refusedIn}
+use Rattle.rtree.specs.Opening.{openAnswerBy, refusedIn}
 
 -- What the inner boxes take of the work buffer: B times the boxes above the leaf level.
 abbrev pub innerBytes : ℕ → ℕ → ℕ → ℕ
@@ -65,12 +66,17 @@ whichOf number = cond (eqb number refusals.work) 0 1
 -- The footer's refusals; then what is shown by the bytes up to the stated length; then, where the bytes received add up
 -- to it, opening the whole. Failing that 2, at the bytes received where they fell short, and at the stated length where
 -- they went past it.
-unfoldable pub partsAnswer : Description → ℕ → List ℕ → ℕ → ℕ → List ℕ → Opened
-partsAnswer d F footer stated room got =
+unfoldable pub partsAnswerBy : Rules → Description → ℕ → List ℕ → ℕ → ℕ → List ℕ → Opened
+partsAnswerBy rules d F footer stated room got =
     let have = min (length got) stated in
     let shown = shownRefusal (tilesOf d footer) (boxBytes d) have got stated room in
-    cond (eqb (footerRefusal d F footer .number) 0)
+    cond (eqb (footerRefusalBy rules d F footer .number) 0)
     (cond (eqb (shown .number) 0)
-    (cond (eqb (length got) stated) (openAnswer d F footer got) (refusedIn 1 (refusals.refusal refusals.bytes have)))
+    (cond (eqb (length got) stated) (openAnswerBy rules d F footer got)
+    (refusedIn 1 (refusals.refusal refusals.bytes have)))
     (refusedIn (whichOf (shown .number)) shown))
-    (refusedIn 0 (footerRefusal d F footer))
+    (refusedIn 0 (footerRefusalBy rules d F footer))
+
+-- by the rules of this library
+abbrev pub partsAnswer : Description → ℕ → List ℕ → ℕ → ℕ → List ℕ → Opened
+partsAnswer = partsAnswerBy current

@@ -1,5 +1,6 @@
--- Does a query say 23? Never: it checks no stored box, a window may be open with infinities, and neither the window's checks nor those of the
--- shape have that number. So the answer over bytes with infinities is the walk's.
+-- Does a query say 23? Never: it checks no stored box, a window may be open with infinities, and neither the checks of
+-- the description, 1 and 28, nor the window's nor those of the shape have that number. So the answer over bytes with
+-- infinities is the walk's.
 -- Assumes nothing.
 use mathlib.Core.Path.{_≡_}
 use mathlib.Core.Bool.{Bool, true, false, not}
@@ -15,10 +16,10 @@ use Rattle.answers.specs.declared.Refusal.{Refusal}
 use Rattle.answers.proofs.Checks.{either, each-has}
 use Rattle.description.specs.declared.Description.{Description}
 use Rattle.description.specs.declared.Kind.{Kind}
-use Rattle.description.specs.Kinds.{sameKind}
+use Rattle.description.specs.Kinds.{sameKind, isFloat32}
 use Rattle.description.specs.Limits.{leastDimensions, mostDimensions, leastFields, mostFields, leastCapacity, mostCapacity}
 use Rattle.description.specs.Limits.{leastTiles, mostTiles, leastFanout, mostFanout, outside}
-use Rattle.description.specs.Description.{kindAt, sidesOf, boxBytes, descriptionRefusal}
+use Rattle.description.specs.Description.{kindAt, sidesOf, boxBytes, limitsRefusal, retiredRefusal, descriptionRefusal}
 use Rattle.ranges.specs.declared.Range.{Range}
 use Rattle.ranges.specs.Ranges as ranges
 use Rattle.verdicts.specs.declared.Verdict.{Verdict}
@@ -68,9 +69,9 @@ of-side r k place =
       (of-range (verdicts.verdict (ranges.endsOf r) r) place, tt),
     )
 
-of-description : (d : Description) → Other (descriptionRefusal d)
-unfolding descriptionRefusal
-of-description d =
+of-limits : (d : Description) → Other (limitsRefusal d)
+unfolding limitsRefusal
+of-limits d =
     in-turn _ (
       said (outside leastDimensions mostDimensions (d .dimensions)) refusals.description 0 (λ e. omega arith),
       (
@@ -78,6 +79,15 @@ of-description d =
         (said (outside leastCapacity mostCapacity (d .capacity)) refusals.description 0 (λ e. omega arith), tt),
       ),
     )
+
+of-retired : (d : Description) → Other (retiredRefusal d)
+unfolding retiredRefusal
+of-retired d =
+    each-has Other _ 0 (sidesOf (d .dimensions)) nothing
+    (λ i a l. said (isFloat32 (kindAt (d .kinds) i)) refusals.retired i (λ e. omega arith))
+
+of-description : (d : Description) → Other (descriptionRefusal d)
+of-description d = either Other (limitsRefusal d) (retiredRefusal d) (of-limits d) (of-retired d)
 
 of-window : (d : Description) (w : Window) → Other (windowRefusal d w)
 unfolding windowRefusal
@@ -132,13 +142,7 @@ unfolding askedRefusalBy
 of-asked d n w =
     in-turn _ (
       of-description d,
-      (
-        nothing,
-        (
-          said (outside leastTiles mostTiles n) refusals.tiles 0 (λ e. omega arith),
-          (of-window d w, tt),
-        ),
-      ),
+      (said (outside leastTiles mostTiles n) refusals.tiles 0 (λ e. omega arith), (of-window d w, tt)),
     )
 
 of-query : (d : Description) (n : ℕ) (body : List ℕ) (w : Window) → Other (queryRefusal d n body w)

@@ -21,7 +21,7 @@ use Rattle.windows.specs.Code.Carried.{windowEnds}
 use Rattle.boxes.proofs.ReadTo.{box-read-miss, box-read-all}
 use Rattle.query.specs.declared.BoxTest.{BoxTest}
 use Rattle.query.specs.declared.Tested.{Tested}
-use Rattle.query.specs.BoxTest.{boxTestRefusal, boxTestAnswer, ReadUp}
+use Rattle.query.specs.BoxTest.{boxTestRefusal, boxTestRefusalBy, boxTestAnswer, boxTestAnswerBy, ReadUp}
 use Rattle.query.specs.Code.Walking.{meetsCarried, readCarried, Carries}
 use Rattle.query.proofs.Window.{Fit, carries, meets-same, read-same}
 
@@ -45,7 +45,7 @@ module _ (d : Description) (bytes : List ℕ) (w : Window) where
   }
 
   pub passed-all : boxTestRefusal d bytes w .number ≡ 0 → Cleared d bytes w
-  unfolding boxTestRefusal
+  unfolding boxTestRefusalBy
   passed-all h =
       let a = clear _ _ h in
       let b = clear _ _ (a .1) in
@@ -57,15 +57,15 @@ module _ (d : Description) (bytes : List ℕ) (w : Window) where
       }
 
   refused-answer : (boxTestRefusal d bytes w .number ≡ 0 → ⊥) → refusedTest (boxTestRefusal d bytes w) ≡ boxTestAnswer d bytes w
-  unfolding boxTestAnswer
+  unfolding boxTestAnswerBy
   refused-answer some = rw (ne-eqb (boxTestRefusal d bytes w .number) 0 some)
 
   clear-answer : boxTestRefusal d bytes w .number ≡ 0 → boxTestAnswer d bytes w ≡ toldTest testedAs
-  unfolding boxTestAnswer
+  unfolding boxTestAnswerBy
   clear-answer h = rw (eq-eqb (boxTestRefusal d bytes w .number) 0 h)
 
   answer-clear : boxTestAnswer d bytes w .number ≡ 0 → boxTestRefusal d bytes w .number ≡ 0
-  unfolding boxTestAnswer
+  unfolding boxTestAnswerBy
   answer-clear h = go (eqb (boxTestRefusal d bytes w .number) 0) refl h
     where
       go : (t : Bool) → eqb (boxTestRefusal d bytes w .number) 0 ≡ t

@@ -63,7 +63,7 @@ passed-asked : (d : Description) (n : ℕ) (w : Window) → askedRefusal d n w .
 unfolding askedRefusalBy
 passed-asked d n w h =
     let a = clear _ _ h in
-    let b = clear _ _ (clear _ _ (a .1) .1) in
+    let b = clear _ _ (a .1) in
     (kept d (a .0), within leastTiles mostTiles n (check-clear _ _ _ (omega arith) (b .0)), clear _ _ (b .1) .0)
 
 -- what does not change in the walk, as the code makes it

@@ -10,7 +10,8 @@ use Rattle.answers.specs.Refusals as refusals
 use Rattle.answers.specs.Checks.{check, first}
 use Rattle.answers.specs.declared.Refusal.{Refusal}
 use Rattle.description.specs.declared.Description.{Description}
-use Rattle.description.specs.Description.{sidesOf, boxBytes, descriptionRefusal}
+use Rattle.description.specs.Description.{sidesOf, boxBytes}
+use Rattle.description.specs.Rules.{Rules, current, describedBy}
 use Rattle.ranges.specs.Ranges.{endsOf, meets}
 use Rattle.boxes.specs.declared.Window.{Window}
 use Rattle.boxes.specs.Boxes.{rangeIn, sideAt, boxMeets, boxRead}
@@ -18,20 +19,20 @@ use Rattle.boxes.specs.Windows.{windowRefusal}
 use Rattle.query.specs.declared.BoxTest.{BoxTest}
 use Rattle.query.specs.declared.Tested.{Tested}
 
-module _ (d : Description) (bytes : List ℕ) (w : Window) where
-  -- 1, the query, and then 2 for bytes that are not B
-  unfoldable pub boxTestRefusal : Refusal
-  boxTestRefusal = first (
-      descriptionRefusal d
+module _ (rules : Rules) (d : Description) (bytes : List ℕ) (w : Window) where
+  -- 1, and what the rules say after it; the query; and then 2 for bytes that are not B
+  unfoldable pub boxTestRefusalBy : Refusal
+  boxTestRefusalBy = first (
+      describedBy rules d
       ∷ windowRefusal d w
       ∷ check (not (eqb (length bytes) (boxBytes d))) refusals.bytes (length bytes)
       ∷ []
       )
 
   -- whether the box meets, and how many dimensions were read; a refusal has 0 in every other number
-  unfoldable pub boxTestAnswer : BoxTest
-  boxTestAnswer =
-      cond (eqb (boxTestRefusal .number) 0)
+  unfoldable pub boxTestAnswerBy : BoxTest
+  boxTestAnswerBy =
+      cond (eqb (boxTestRefusalBy .number) 0)
       (record {
         number = 0;
         place = 0;
@@ -40,7 +41,19 @@ module _ (d : Description) (bytes : List ℕ) (w : Window) where
           read = boxRead (d .kinds) (sidesOf (d .dimensions)) bytes (w .sides);
         };
       })
-      (record { number = boxTestRefusal .number; place = boxTestRefusal .place; tested = record { meets = false; read = 0 } })
+      (record {
+        number = boxTestRefusalBy .number;
+        place = boxTestRefusalBy .place;
+        tested = record { meets = false; read = 0 };
+      })
+
+-- by the rules of this library
+module _ (d : Description) (bytes : List ℕ) (w : Window) where
+  abbrev pub boxTestRefusal : Refusal
+  boxTestRefusal = boxTestRefusalBy current d bytes w
+
+  abbrev pub boxTestAnswer : BoxTest
+  boxTestAnswer = boxTestAnswerBy current d bytes w
 
   -- dimension i of the box meets the query
   abbrev pub sideMeets : ℕ → Bool

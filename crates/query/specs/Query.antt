@@ -13,8 +13,8 @@ use Rattle.answers.specs.declared.Refusal.{Refusal}
 use Rattle.description.specs.declared.Description.{Description}
 use Rattle.boxes.specs.declared.Window.{Window}
 use Rattle.description.specs.Limits.{leastTiles, outside}
-use Rattle.description.specs.Description.{descriptionRefusal, sidesOf, boxBytes}
-use Rattle.description.specs.Rules.{Rules, current}
+use Rattle.description.specs.Description.{sidesOf, boxBytes}
+use Rattle.description.specs.Rules.{Rules, current, describedBy}
 use Rattle.boxes.specs.Boxes.{boxMeets}
 use Rattle.boxes.specs.Windows.{windowRefusal}
 use Rattle.tree.specs.Walk as walk
@@ -26,8 +26,7 @@ use Rattle.rtree.specs.Opening.{Accepted}
 -- 1, and what the rules say after it; 10; the query
 unfoldable pub askedRefusalBy : Rules → Description → ℕ → Window → Refusal
 askedRefusalBy rules d n w = first (
-    descriptionRefusal d
-    ∷ rules .further d
+    describedBy rules d
     ∷ check (outside leastTiles (rules .tiles) n) refusals.tiles 0
     ∷ windowRefusal d w
     ∷ []

@@ -120,7 +120,7 @@ pub fn box_test(description: Description, bytes: &[u8], window: Window) -> BoxTe
     }
 }
 
-// 1, the window, the bytes.
+// 1, 28, the window, the bytes.
 fn check_box_test(description: Description, bytes: &[u8], window: Window) -> Refusal
     ensures { λ r. ⌜ r ≡ boxTestRefusal description (now (bytes .entry)) window ⌝ }
 {
@@ -143,7 +143,7 @@ fn refused(number: u64, place: u64) -> Answer
     }
 }
 
-// 1, 10, the window.
+// 1, 28, 10, the window.
 fn check_asked(description: Description, tiles: u64, window: Window) -> Refusal
     ensures { λ r. ⌜ r ≡ askedRefusal description tiles window ⌝ }
 {

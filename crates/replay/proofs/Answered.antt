@@ -16,7 +16,7 @@ use Rattle.text.specs.Text.{Bytes, lines}
 use Rattle.text.specs.Code.Places.{Wrote}
 use Rattle.text.proofs.Writing.{seen-sets}
 use Rattle.replay.specs.declared.Replayed.{Replayed}
-use Rattle.replay.specs.Replay.{replayText, replayAnswer, replayBuffer, mostLine, OneEach}
+use Rattle.replay.specs.Replay.{replayText, replayAnswer, replayAnswerBy, replayBuffer, replayBufferBy, mostLine, OneEach}
 use Rattle.replay.proofs.Room.{room-enough}
 use Rattle.replay.proofs.Fields.{one-each}
 
@@ -31,7 +31,7 @@ Promised d n body log before after r =
 module _ (d : Description) (n : ℕ) (body log : Bytes) (before : List ℕ) where
   pub refused : length body < 2 ^ 64 → length log < 2 ^ 64 → leb (length (replayText d n body log)) (length before) ≡ false
       → Promised d n body log before before (record { number = room; place = 0; length = 0 })
-  unfolding replayAnswer replayBuffer
+  unfolding replayAnswerBy replayBufferBy
   refused small short e =
       let l = leb-false (length (replayText d n body log)) (length before) e in
       let t = lt-ltb (length before) (length (replayText d n body log)) l in
@@ -39,7 +39,7 @@ module _ (d : Description) (n : ℕ) (body log : Bytes) (before : List ℕ) wher
 
   pub accepted : leb (length (replayText d n body log)) (length before) ≡ true → {after : List ℕ} {size : ℕ}
       → Wrote 0 before 0 (replayText d n body log) after size → Promised d n body log before after (record { number = 0; place = 0; length = size })
-  unfolding replayAnswer replayBuffer
+  unfolding replayAnswerBy replayBufferBy
   accepted e {after} {size} w =
       let l = leb-true (length (replayText d n body log)) (length before) e in
       let t = le-ltb (length before) (length (replayText d n body log)) l in

@@ -11,7 +11,7 @@ use Rattle.answers.specs.Runs.{over}
 use Rattle.description.specs.declared.Description.{Description}
 use Rattle.description.specs.declared.Kind.{Kind}
 use Rattle.description.specs.declared.Kind.the-variants.{Int32, Int64, Float32, Float64, Uint64}
-use Rattle.description.specs.Description.{descriptionRefusal, sideStart, boxBytes}
+use Rattle.description.specs.Description.{limitsRefusal, retiredRefusal, sideStart, boxBytes}
 use Rattle.description.specs.Kinds.{key, isNan, isInfinite, atMost}
 use Rattle.ranges.specs.Ranges.{endsAt, endsOf, hasNan, inside, meets}
 use Rattle.verdicts.specs.Verdicts.{hasInfinity, isReversed, verdict}
@@ -28,7 +28,7 @@ use Rattle.decimal.specs.Read.{readNumber, readSigned, startsWithMinus}
 use Rattle.range_text.specs.Ranges.{readRange}
 use Rattle.text.specs.Text.{Bytes, newline, cut}
 use Rattle.replay.specs.Records.{numbersRead, isReadable, loggedWindow}
-use Rattle.replay.specs.Replay.{isGood, recordText, replayText, replayAnswer, replayBuffer}
+use Rattle.replay.specs.Replay.{isGoodBy, recordTextBy, replayText, replayTextBy, replayAnswer, replayAnswerBy, replayBuffer, replayBufferBy}
 
 described : Kind → ℕ → Description
 described k d = record { dimensions = d; kinds = replicate 4 (record { kind = k }); fields = 1; capacity = 32 }
@@ -54,7 +54,7 @@ text : Bytes
 text = 48 ∷ 9 ∷ 115 ∷ 97 ∷ 109 ∷ 101 ∷ 9 ∷ 50 ∷ 9 ∷ 54 ∷ 9 ∷ 50 ∷ 9 ∷ 54 ∷ 10 ∷ 49 ∷ 9 ∷ 100 ∷ 105 ∷ 102 ∷ 102 ∷ 101 ∷ 114 ∷ 115 ∷ 9 ∷ 49 ∷ 9 ∷ 53 ∷ 9 ∷ 48 ∷ 9 ∷ 53 ∷ 10 ∷ 50 ∷ 9 ∷ 100 ∷ 105 ∷ 102 ∷ 102 ∷ 101 ∷ 114 ∷ 115 ∷ 9 ∷ 48 ∷ 9 ∷ 50 ∷ 9 ∷ 48 ∷ 9 ∷ 49 ∷ 10 ∷ 51 ∷ 9 ∷ 98 ∷ 97 ∷ 100 ∷ 10 ∷ 52 ∷ 9 ∷ 98 ∷ 97 ∷ 100 ∷ 10 ∷ 53 ∷ 9 ∷ 115 ∷ 97 ∷ 109 ∷ 101 ∷ 9 ∷ 51 ∷ 9 ∷ 54 ∷ 9 ∷ 51 ∷ 9 ∷ 54 ∷ 10 ∷ []
 
 replayed : replayText (described Int32 1) 3 treeA log ≡ text
-unfolding first over descriptionRefusal sideStart boxBytes key isNan isInfinite atMost endsAt endsOf hasNan hasInfinity isReversed verdict inside meets boxOf boxMeets sideRefusal windowRefusal signedKey little firstOfTwo secondOfTwo up boxes children heightAbove height levels allBoxes boxesAbove levelStart bodyBytes looked found frontRefusal sizeRefusal countsRefusal shapeRefusal askedRefusalBy queryRefusalBy meeting queryAnswerBy written decimal valueFrom allDigits startsWell isDecimal readNumber readSigned startsWithMinus cut readRange numbersRead isReadable loggedWindow isGood recordText replayText replayAnswer replayBuffer described le box treeA log text
+unfolding first over limitsRefusal retiredRefusal sideStart boxBytes key isNan isInfinite atMost endsAt endsOf hasNan hasInfinity isReversed verdict inside meets boxOf boxMeets sideRefusal windowRefusal signedKey little firstOfTwo secondOfTwo up boxes children heightAbove height levels allBoxes boxesAbove levelStart bodyBytes looked found frontRefusal sizeRefusal countsRefusal shapeRefusal askedRefusalBy queryRefusalBy meeting queryAnswerBy written decimal valueFrom allDigits startsWell isDecimal readNumber readSigned startsWithMinus cut readRange numbersRead isReadable loggedWindow isGoodBy recordTextBy replayTextBy replayAnswerBy replayBufferBy described le box treeA log text
 replayed = refl
 
 -- an empty log; one newline; a tree of another number of tiles, a description of no dimension, a float dimension: every line is `bad`; room of a byte less
@@ -73,7 +73,7 @@ edges :
     × (replayAnswer (described Int32 1) 3 treeA (newline ∷ []) 6 ≡ record { number = 0; place = 0; length = 6 })
     × (replayBuffer (described Int32 1) 3 treeA (newline ∷ []) (replicate 5 7) ≡ replicate 5 7)
     × (replayBuffer (described Int32 1) 3 treeA (newline ∷ []) (replicate 8 7) ≡ bad-line ++ 7 ∷ 7 ∷ [])
-unfolding first over descriptionRefusal sideStart boxBytes key isNan isInfinite atMost endsAt endsOf hasNan hasInfinity isReversed verdict inside meets boxOf boxMeets sideRefusal windowRefusal signedKey little firstOfTwo secondOfTwo up boxes children heightAbove height levels allBoxes boxesAbove levelStart bodyBytes looked found frontRefusal sizeRefusal countsRefusal shapeRefusal askedRefusalBy queryRefusalBy meeting queryAnswerBy written decimal valueFrom allDigits startsWell isDecimal readNumber readSigned startsWithMinus cut readRange numbersRead isReadable loggedWindow isGood recordText replayText replayAnswer replayBuffer described le box treeA bad-line
+unfolding first over limitsRefusal retiredRefusal sideStart boxBytes key isNan isInfinite atMost endsAt endsOf hasNan hasInfinity isReversed verdict inside meets boxOf boxMeets sideRefusal windowRefusal signedKey little firstOfTwo secondOfTwo up boxes children heightAbove height levels allBoxes boxesAbove levelStart bodyBytes looked found frontRefusal sizeRefusal countsRefusal shapeRefusal askedRefusalBy queryRefusalBy meeting queryAnswerBy written decimal valueFrom allDigits startsWell isDecimal readNumber readSigned startsWithMinus cut readRange numbersRead isReadable loggedWindow isGoodBy recordTextBy replayTextBy replayAnswerBy replayBufferBy described le box treeA bad-line
 edges = (refl, refl, refl, refl, refl, refl, refl, refl, refl, refl)
 
 -- each kind at its ends, and a reversed window, which is read (the query refuses it)

@@ -18,7 +18,7 @@ use Rattle.decimal.proofs.Back.{decimal-decimal}
 use Rattle.text.specs.Text.{Bytes, tab, newline, cut, lines, lineAt, parts, part, joined, every}
 use Rattle.text.proofs.Back.{Free, cut-ended, lines-joined}
 use Rattle.replay.specs.Records.{loggedFound, loggedLooked}
-use Rattle.replay.specs.Replay.{sameWord, differsWord, badWord, answerNow, isGood, recordText, replayText, OneEach}
+use Rattle.replay.specs.Replay.{sameWord, differsWord, badWord, answerNow, isGood, recordText, recordTextBy, replayText, replayTextBy, OneEach}
 
 -- ---- digits and letters, from 48 on, hold no separator
 high-free : (sep : ℕ) → sep < 48 → (t : Bytes) → every (leb 48) t ≡ true → Free sep t
@@ -89,7 +89,7 @@ module _ (d : Description) (n : ℕ) (body : Bytes) (i : ℕ) (line : Bytes) whe
   fieldsOf = fieldsAs (isGood d n body line) (cond (eqb found foundNow && eqb looked lookedNow) sameWord differsWord)
 
   joined-fields : recordText d n body i line ≡ joined tab fieldsOf
-  unfolding recordText
+  unfolding recordTextBy
   joined-fields = go (isGood d n body line) (cond (eqb found foundNow && eqb looked lookedNow) sameWord differsWord)
     where
       go : (good : Bool) (word : Bytes)
@@ -154,7 +154,7 @@ module _ (d : Description) (n : ℕ) (body log : Bytes) where
   row i = recordText d n body i (lineAt i log)
 
   pub one-each : OneEach d n body log (replayText d n body log)
-  unfolding replayText
+  unfolding replayTextBy
   one-each =
       let l = lines-joined row (λ i. record-free d n body i (lineAt i log)) 0 (length (lines log)) in
       record {

@@ -6,5 +6,6 @@ pub mod Text
 pub mod Room
 pub mod Fields
 pub mod Answered
+pub mod Rules
 pub mod Examples
 pub mod Short

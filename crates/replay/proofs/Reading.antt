@@ -31,7 +31,7 @@ use Rattle.text.proofs.Parts.{first-start, this-part, past-part, last-part}
 use Rattle.replay.specs.declared.Sides.{Sides}
 use Rattle.replay.specs.declared.Logged.{Logged}
 use Rattle.replay.specs.Records.{dimensionRead, dimensionSide, numbersRead, isReadable, loggedWindow}
-use Rattle.replay.specs.Replay.{comparedText, badText, isGood, recordText}
+use Rattle.replay.specs.Replay.{comparedText, badText, isGood, isGoodBy, recordText, recordTextBy}
 use Rattle.replay.specs.Code.Reading.{ReadSides, loggedOf}
 
 all-more : (g : ℕ → Bool) (m : ℕ) → all g 0 (m + 1) ≡ all g 0 m && g m
@@ -102,16 +102,16 @@ module _ (d : Description) (line : Bytes) where
 -- ---- what comes of a record
 module _ (d : Description) (n : ℕ) (body line : Bytes) where
   bad : isGood d n body line ≡ false → (i : ℕ) → badText i ≡ recordText d n body i line
-  unfolding recordText
+  unfolding recordTextBy
   bad e i = rw e
 
   pub bad-long : 255 < length line → (i : ℕ) → badText i ≡ recordText d n body i line
-  unfolding isGood isReadable
+  unfolding isGoodBy isReadable
   bad-long h = bad (rw (lt-leb (length line) 255 h))
 
   module _ (short : length line ≤ 255) {r : Logged} (is : r ≡ loggedOf d line) where
     pub bad-read : r .read ≡ false → (i : ℕ) → badText i ≡ recordText d n body i line
-    unfolding isGood isReadable
+    unfolding isGoodBy isReadable
     bad-read e =
         let x : numbersRead d line ≡ false = rw is at e in
         bad (rw (le-leb (length line) 255 short, x))
@@ -121,14 +121,14 @@ module _ (d : Description) (n : ℕ) (body line : Bytes) where
       answered = now ∙ rw is
 
       pub bad-query : r .read ≡ true → (a .number ≡ 0 → ⊥) → (i : ℕ) → badText i ≡ recordText d n body i line
-      unfolding isGood isReadable
+      unfolding isGoodBy isReadable
       bad-query e some =
           let x : numbersRead d line ≡ true = rw is at e in
           bad (rw (le-leb (length line) 255 short, x, ← answered) (ne-eqb (a .number) 0 some))
 
       pub good-query : r .read ≡ true → a .number ≡ 0 → (i : ℕ)
           → comparedText i (r .found) (r .looked) (a .found) (a .looked) ≡ recordText d n body i line
-      unfolding recordText isGood isReadable
+      unfolding recordTextBy isGoodBy isReadable
       good-query e none i =
           let x : numbersRead d line ≡ true = rw is at e in
           rw (le-leb (length line) 255 short, x, ← answered, eq-eqb (a .number) 0 none, is)

@@ -28,7 +28,7 @@ use Rattle.query.proofs.Promised.{passed-all}
 use Rattle.text.specs.Text.{Bytes, newline, onto, cut, lines, lineAt, part, tab}
 use Rattle.replay.specs.declared.Outcome.{Outcome}
 use Rattle.replay.specs.Records.{loggedWindow, loggedFound, loggedLooked}
-use Rattle.replay.specs.Replay.{answerNow, isGood, recordText, recordLine, replayText, mostLine}
+use Rattle.replay.specs.Replay.{answerNow, isGood, recordText, recordTextBy, recordLine, replayText, replayTextBy, mostLine}
 use Rattle.replay.specs.Code.Writing.{outcomeLine}
 use Rattle.replay.proofs.Writing.{bad-length, good-length, verdict-short}
 
@@ -88,7 +88,7 @@ module _ (d : Description) (n : ℕ) (body : Bytes) (small : length body < 2 ^ 6
       )
 
   line-most : length (recordText d n body i line ++ newline ∷ []) ≤ mostLine
-  unfolding recordText told
+  unfolding recordTextBy told
   line-most = told-most (isGood d n body line)
 
 -- ---- all lines
@@ -119,7 +119,7 @@ lines-few (b ∷ t) = go (eqb b newline) (lines-few t)
 module _ (d : Description) (n : ℕ) (body log : Bytes) (small : length body < 2 ^ 64) (short : length log < 2 ^ 64) where
   -- 113 bytes a line are always room enough
   pub room-enough : length (replayText d n body log) ≤ mostLine * length (lines log)
-  unfolding replayText
+  unfolding replayTextBy
   room-enough =
       join-most (recordLine d n body log) 113 0 (length (lines log))
       (λ i a b. line-most d n body small i (omega (arith, lines-few log)) (lineAt i log))

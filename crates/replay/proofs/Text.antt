@@ -18,7 +18,7 @@ use Rattle.text.specs.Code.Places.{AtLine, Wrote}
 use Rattle.text.proofs.Lines.{line-at, more-lines}
 use Rattle.text.proofs.Writing.{wrote-append, wrote-size, wrote-nothing}
 use Rattle.replay.specs.declared.Outcome.{Outcome}
-use Rattle.replay.specs.Replay.{recordText, recordLine, replayText}
+use Rattle.replay.specs.Replay.{recordText, recordLine, replayText, replayTextBy}
 use Rattle.replay.specs.Code.Writing.{outcomeText, outcomeLine}
 
 leb-less : (a b c : ℕ) → a ≤ c → leb (a + b) c ≡ leb b (c - a)
@@ -34,7 +34,7 @@ module _ (d : Description) (n : ℕ) (body log : Bytes) where
   textFrom i = join (recordLine d n body log) i (length (lines log) - i)
 
   all-left : replayText d n body log ≡ textFrom 0
-  unfolding replayText
+  unfolding replayTextBy
   all-left = over-start _++_ [] (recordLine d n body log) (length (lines log))
 
   none-left : (i : ℕ) → length (lines log) ≤ i → textFrom i ≡ []

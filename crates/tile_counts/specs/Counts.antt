@@ -6,8 +6,9 @@ use lib.Dec.{ltb}
 use Rattle.answers.specs.Refusals.{nullCount}
 use Rattle.answers.specs.declared.Refusal.{Refusal}
 use Rattle.description.specs.declared.Description.{Description}
-use Rattle.footer.specs.Checks.{footerRefusal}
-use Rattle.footer.specs.Answer.{cellsOf, checkedAnswer}
+use Rattle.description.specs.Rules.{Rules, current}
+use Rattle.footer.specs.Checks.{footerRefusalBy}
+use Rattle.footer.specs.Answer.{cellsOf, checkedAnswerBy}
 use Rattle.lists.specs.Lists.{entry, listRefusal, entriesRefusal}
 use Rattle.tile_metadata.specs.declared.TileValues.{TileValues}
 use Rattle.tile_metadata.specs.declared.TwoBodies.{TwoBodies}
@@ -28,17 +29,29 @@ sumAnswer n s i = unlessRefused (listRefusal n 8 s .number) (sumOf n s i) 0
 unfoldable pub countsRefusal : ℕ → ℕ → ℕ → List ℕ → Refusal
 countsRefusal n last c s = entriesRefusal (λ i. ltb (cellsOf n last c i) (entry s i)) nullCount n s
 
-module _ (d : Description) (F : ℕ) (footer s : List ℕ) where
+module _ (rules : Rules) (d : Description) (F : ℕ) (footer s : List ℕ) where
   -- what counts in the body; an accepted footer tells n and the last tile's cells, a refused one 0 for both
-  abbrev pub nullCountsRefusal : Refusal
-  nullCountsRefusal =
-      let told = checkedAnswer d F footer in
+  abbrev pub nullCountsRefusalBy : Refusal
+  nullCountsRefusalBy =
+      let told = checkedAnswerBy rules d F footer in
       countsRefusal (told .tiles) (told .«last_cells») (d .capacity) s
 
   -- "Null counts come with the footer, its refusals first"
+  abbrev pub nullCountsAnswerBy : TwoBodies
+  nullCountsAnswerBy =
+      together (checkedAnswerBy rules d F footer .tiles) (footerRefusalBy rules d F footer) nullCountsRefusalBy
+
+  abbrev pub nullCountAnswerBy : ℕ → ℕ
+  nullCountAnswerBy i =
+      unlessRefused (nullCountsAnswerBy .number) (valueOf 8 (checkedAnswerBy rules d F footer .tiles) s i) 0
+
+-- by the rules of this library
+module _ (d : Description) (F : ℕ) (footer s : List ℕ) where
+  abbrev pub nullCountsRefusal : Refusal
+  nullCountsRefusal = nullCountsRefusalBy current d F footer s
+
   abbrev pub nullCountsAnswer : TwoBodies
-  nullCountsAnswer = together (checkedAnswer d F footer .tiles) (footerRefusal d F footer) nullCountsRefusal
+  nullCountsAnswer = nullCountsAnswerBy current d F footer s
 
   abbrev pub nullCountAnswer : ℕ → ℕ
-  nullCountAnswer i =
-      unlessRefused (nullCountsAnswer .number) (valueOf 8 (checkedAnswer d F footer .tiles) s i) 0
+  nullCountAnswer = nullCountAnswerBy current d F footer s

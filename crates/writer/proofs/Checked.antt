@@ -14,14 +14,14 @@ use Rattle.description.specs.declared.Description.{Description}
 use Rattle.description.specs.Description.{boxBytes}
 use Rattle.tree.specs.Shape.{bodyBytes}
 use Rattle.written.specs.Body.{writtenBody}
-use Rattle.written.specs.Writing.{refusedWriting, lengthTold, writeRefusal, writeAnswer, writeBuffer}
+use Rattle.written.specs.Writing.{refusedWriting, lengthTold, writeRefusal, writeRefusalBy, writeAnswer, writeAnswerBy, writeBuffer, writeBufferBy}
 use Rattle.written.proofs.Tree.{Cleared, write-cleared, written-length}
 use Rattle.writer.specs.Code.Rows.{Filling}
 
 module _ (d : Description) (n f : ℕ) (leaves : List ℕ) (room : ℕ) where
   -- the number that is answered is the refusal's
   pub same-number : writeAnswer d n f leaves room .number ≡ writeRefusal d n f leaves room .number
-  unfolding writeAnswer
+  unfolding writeAnswerBy
   same-number = go (eqb (writeRefusal d n f leaves room .number) 0) refl
     where
       go : (t : Bool) → eqb (writeRefusal d n f leaves room .number) 0 ≡ t
@@ -36,7 +36,7 @@ module _ (d : Description) (n f : ℕ) (leaves out : List ℕ) (h : writeRefusal
   told = write-cleared d n f leaves (length out) h
 
   enough : length (writtenBody d n f leaves) ≤ length out
-  unfolding writeRefusal
+  unfolding writeRefusalBy
   enough =
       let a = clear _ _ h in
       let b = clear _ _ (a .1) in
@@ -53,9 +53,9 @@ module _ (d : Description) (n f : ℕ) (leaves out : List ℕ) (h : writeRefusal
   }
 
   pub filled : (new : List ℕ) → new ≡ writtenBody d n f leaves ++ drop (bodyBytes f n (boxBytes d)) out → new ≡ writeBuffer d n f leaves out
-  unfolding writeBuffer
+  unfolding writeBufferBy
   filled new e = e ∙ rw (eq-eqb _ 0 h, written-length d n f leaves told)
 
 pub kept : (d : Description) (n f : ℕ) (leaves out : List ℕ) → (writeRefusal d n f leaves (length out) .number ≡ 0 → ⊥) → out ≡ writeBuffer d n f leaves out
-unfolding writeBuffer
+unfolding writeBufferBy
 kept d n f leaves out h = rw (ne-eqb _ 0 h)

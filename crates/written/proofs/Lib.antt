@@ -7,3 +7,4 @@ pub mod Again
 pub mod Tree
 pub mod SameLeaves
 pub mod Fewest
+pub mod Rules

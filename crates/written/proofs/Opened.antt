@@ -1,5 +1,6 @@
 -- Is what is written accepted? A body is, whose boxes have sound ranges and lie inside their parents (`Packed`), with every footer that is not
 -- refused, has this n, and has a domain that holds the root (`opens-by`), whatever the rules: each check of opening is gone through in its order.
+-- So it is by this library's, with the root as it is read back (`opens`).
 -- Assumes nothing.
 use mathlib.Core.Path.{_≡_, ap, _∙_}
 use mathlib.Core.Bool.{true}
@@ -15,7 +16,7 @@ use Rattle.description.specs.declared.Dimension.{Dimension}
 use Rattle.description.specs.declared.Description.{Description}
 use Rattle.description.specs.Limits.{Sizes}
 use Rattle.description.specs.Description.{sidesOf, boxBytes}
-use Rattle.description.specs.Rules.{Rules}
+use Rattle.description.specs.Rules.{Rules, current}
 use Rattle.boxes.specs.Boxes.{rangesRefusal, boxInside, boxRefusal}
 use Rattle.tree.specs.Shape.{boxes, height, levels}
 use Rattle.tree.proofs.Root.{height-one}
@@ -25,6 +26,7 @@ use Rattle.footer.proofs.Domain.{ranges-anywhere}
 use Rattle.rtree.specs.Body.{fanoutOf, boxAt}
 use Rattle.rtree.specs.Opening.{rootRefusal, innerRefusal, levelRefusal, boxesRefusal, bodyRefusal, openAnswerBy}
 use Rattle.written.specs.Body.{bodyWith}
+use Rattle.written.specs.Opened.{Opens}
 use Rattle.written.proofs.Boxes.{parent-there}
 use Rattle.written.proofs.Body.{body-fanout, body-levels, body-box, body-shape}
 
@@ -102,3 +104,8 @@ module _ {d : Description} {n f : ℕ} {box : ℕ → ℕ → List ℕ} (p : Pac
   opens-by rules F footer clear tiles holds =
       let told : bodyRefusal d (tilesOf d footer) (domainBytes d footer) body ≡ none = rw tiles (body-none (domainBytes d footer) holds) in
       rw (eq-eqb _ 0 clear, told, tiles, fanout, body-levels f n box (p .sizes))
+
+  pub opens : Opens d n f (bodyWith f n box)
+  opens F footer clear tiles holds =
+      let one = height-one f n (p .sizes .least) (p .sizes .some) in
+      opens-by current F footer clear tiles (rw (same-box (height f n) 0 (omega arith) (omega arith)) at holds)

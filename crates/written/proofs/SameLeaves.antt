@@ -11,10 +11,10 @@ use lib.ListN.{length, take, drop, length-take, length-drop}
 use Rattle.answers.specs.Refusals as refusals
 use Rattle.answers.specs.Checks.{check}
 use Rattle.answers.specs.declared.Refusal.{Refusal}
-use Rattle.answers.proofs.Checks.{clear}
+use Rattle.answers.proofs.Checks.{go-on, clear}
 use Rattle.answers.proofs.Joined.{part-in}
 use Rattle.description.specs.declared.Description.{Description}
-use Rattle.description.specs.Description.{sidesOf, boxBytes, descriptionRefusal}
+use Rattle.description.specs.Description.{sidesOf, boxBytes, limitsRefusal, retiredRefusal, descriptionRefusal}
 use Rattle.ranges.specs.Ranges.{hasNan}
 use Rattle.boxes.specs.Boxes.{sideAt, rangesRefusal}
 use Rattle.boxes.proofs.Holding.{ranges-numbers, box-inside-same, same-sound}
@@ -65,7 +65,9 @@ module _ (d : Description) (n : ℕ) (body : List ℕ) (a : Accepted d n body) w
 
   described : descriptionRefusal d .number ≡ 0
   unfolding entryRefusal
-  described = clear _ _ (opened d (a .file) (a .footer) body (a .passed) .0) .0
+  described =
+      let front = clear _ _ (opened d (a .file) (a .footer) body (a .passed) .0) in
+      ap (λ (r : Refusal). r .number) (go-on (limitsRefusal d) (retiredRefusal d) (front .0)) ∙ clear _ _ (front .1) .0
 
   module _ (leaves : List ℕ) (same : SameLeaves d n body leaves) where
     pub same-cleared : Cleared d n (fanoutOf body) leaves

@@ -2,7 +2,7 @@
 -- (`written-leaves`), and that it is accepted (`written-opens`).
 -- Assumes nothing.
 use mathlib.Core.Path.{_≡_, ap, _∙_}
-use mathlib.Core.Bool.{true, false, not}
+use mathlib.Core.Bool.{false, not}
 use mathlib.Core.List.{List}
 use Prim.Native.Nat.{ℕ, _*_, _<_}
 use native.Mathlib.Omega.{arith}
@@ -18,20 +18,16 @@ use Rattle.answers.proofs.Joined.{cut-join}
 use Rattle.description.specs.declared.Description.{Description}
 use Rattle.description.specs.Limits.{leastTiles, mostTiles, leastFanout, mostFanout, Sizes}
 use Rattle.description.specs.Description.{sidesOf, boxBytes, descriptionRefusal}
-use Rattle.description.specs.Rules.{current}
 use Rattle.description.proofs.Limits.{within, not-outside}
-use Rattle.boxes.specs.Boxes.{boxInside}
 use Rattle.boxes.proofs.Moving.{ranges-none}
 use Rattle.boxes.proofs.Holding.{ranges-numbers}
-use Rattle.tree.specs.Shape.{boxes, height, levels, levelStart, bodyBytes}
-use Rattle.footer.specs.Fields.{tilesOf, domainBytes}
-use Rattle.footer.specs.Checks.{footerRefusal}
-use Rattle.rtree.specs.Opening.{openAnswer}
+use Rattle.tree.specs.Shape.{boxes, levelStart, bodyBytes}
 use Rattle.written.specs.Body.{writtenBox, writtenBody}
-use Rattle.written.specs.Writing.{sizesRefusal, leafRefusal, writeRefusal}
+use Rattle.written.specs.Opened.{Opens}
+use Rattle.written.specs.Writing.{sizesRefusal, sizesRefusalBy, leafRefusal, writeRefusal, writeRefusalBy}
 use Rattle.written.proofs.Body.{body-length, level-boxes}
 use Rattle.written.proofs.Boxes.{box-sized, box-nested, box-sound}
-use Rattle.written.proofs.Opened.{Packed, opens-by}
+use Rattle.written.proofs.Opened.{Packed, opens}
 
 -- what is passed before the room is asked for
 pub record Cleared (d : Description) (n f : ℕ) (leaves : List ℕ) : Type 0 where
@@ -42,7 +38,7 @@ pub record Cleared (d : Description) (n f : ℕ) (leaves : List ℕ) : Type 0 wh
 
 module _ (d : Description) (n f : ℕ) (leaves : List ℕ) where
   pub sizes-clear : sizesRefusal d n f .number ≡ 0 → (descriptionRefusal d .number ≡ 0) × Sizes n f
-  unfolding sizesRefusal
+  unfolding sizesRefusalBy
   sizes-clear h =
       let a = clear _ _ h in
       let b = clear _ _ (a .1) in
@@ -53,7 +49,7 @@ module _ (d : Description) (n f : ℕ) (leaves : List ℕ) where
 
   -- what is not refused has passed them
   pub write-cleared : (room : ℕ) → writeRefusal d n f leaves room .number ≡ 0 → Cleared d n f leaves
-  unfolding writeRefusal
+  unfolding writeRefusalBy
   write-cleared room h =
       let a = clear _ _ h in
       let b = clear _ _ (a .1) in
@@ -68,7 +64,7 @@ module _ (d : Description) (n f : ℕ) (leaves : List ℕ) where
 
   module _ (c : Cleared d n f leaves) where
     sizes-none : sizesRefusal d n f ≡ none
-    unfolding sizesRefusal
+    unfolding sizesRefusalBy
     sizes-none =
         past _ _ (c .described)
         ∙ past-check _ _ _ _ (not-outside leastTiles mostTiles n (c .sizes .some) (c .sizes .most))
@@ -85,7 +81,7 @@ module _ (d : Description) (n f : ℕ) (leaves : List ℕ) where
 
     -- and then only the room is asked for
     pub write-room : (room : ℕ) → writeRefusal d n f leaves room ≡ check (ltb room (bodyBytes f n (boxBytes d))) refusals.room 0
-    unfolding writeRefusal
+    unfolding writeRefusalBy
     write-room room =
         let short = ltb room (length (writtenBody d n f leaves)) in
         let bytes : not (eqb (length leaves) (n * boxBytes d)) ≡ false = rw (eq-eqb (length leaves) (n * boxBytes d) (c .whole)) in
@@ -114,10 +110,5 @@ module _ (d : Description) (n f : ℕ) (leaves : List ℕ) where
               (λ i b. ranges-numbers (d .kinds) (sidesOf (d .dimensions)) _ _ (c .sound i b)) j k l;
         }
 
-  -- The body is accepted with any accepted footer of that n and description whose domain holds the root; the answer is n, f and L.
-  pub written-opens : (room : ℕ) → writeRefusal d n f leaves room .number ≡ 0
-      → (F : ℕ) (footer : List ℕ) → footerRefusal d F footer .number ≡ 0 → tilesOf d footer ≡ n
-      → boxInside (d .kinds) (sidesOf (d .dimensions)) (writtenBox d n f leaves (height f n) 0) (domainBytes d footer) ≡ true
-      → openAnswer d F footer (writtenBody d n f leaves)
-      ≡ record { number = 0; place = 0; which = 0; tiles = n; fanout = f; levels = levels f n }
-  written-opens room h = opens-by (written-packed (write-cleared room h)) current
+  pub written-opens : (room : ℕ) → writeRefusal d n f leaves room .number ≡ 0 → Opens d n f (writtenBody d n f leaves)
+  written-opens room h = opens (written-packed (write-cleared room h))

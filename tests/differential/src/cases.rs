@@ -46,6 +46,15 @@ impl Chance {
     }
 }
 
+/// Edges of float32: zeros, infinities, the least and the greatest of the numbers below and above the normal ones' least.
+pub const SINGLES: [f32; 12] = {
+    let (subnormal, greatest) = (f32::from_bits(1), f32::from_bits(0x007f_ffff));
+    [
+        0.0, -0.0, f32::INFINITY, f32::NEG_INFINITY, subnormal, -subnormal, greatest, -greatest, f32::MIN_POSITIVE, -f32::MIN_POSITIVE, f32::MAX,
+        f32::MIN,
+    ]
+};
+
 /// One end of a range as its bytes: small whole numbers mostly, the kind's own edges now and then. Those of uint64 lie around 2^63.
 fn end(c: &mut Chance, kind: u8, x: i64) -> Vec<u8> {
     let edge = c.one_in(60);
@@ -54,7 +63,7 @@ fn end(c: &mut Chance, kind: u8, x: i64) -> Vec<u8> {
         k if k == INT32.number => (x as i32).to_le_bytes().to_vec(),
         k if k == INT64.number && edge => c.of(&[i64::MIN, i64::MAX, -1, 0]).to_le_bytes().to_vec(),
         k if k == INT64.number => x.to_le_bytes().to_vec(),
-        k if k == FLOAT32.number && edge => c.of(&[0.0f32, -0.0, f32::INFINITY, f32::NEG_INFINITY, 1e-45, -1e-45]).to_le_bytes().to_vec(),
+        k if k == FLOAT32.number && edge => c.of(&SINGLES).to_le_bytes().to_vec(),
         k if k == FLOAT32.number => (x as f32 / 2.0).to_le_bytes().to_vec(),
         k if k == FLOAT64.number && edge => c.of(&[0.0f64, -0.0, f64::INFINITY, f64::NEG_INFINITY, 5e-324, -5e-324]).to_le_bytes().to_vec(),
         k if k == FLOAT64.number => (x as f64 / 2.0).to_le_bytes().to_vec(),
@@ -89,8 +98,9 @@ fn infinite_side(c: &mut Chance, kinds: &[u8], data: &mut [u8], start: usize) {
     }
 }
 
+/// A kind that a dimension may have.
 fn some_kind(c: &mut Chance) -> u8 {
-    c.of(&KINDS).number
+    c.of(&[INT32, INT64, FLOAT64, UINT64]).number
 }
 
 /// Numbers that are no kind's: those between the kinds' own, the next two, and the largest.
@@ -115,6 +125,9 @@ fn description(c: &mut Chance) -> Description {
     let most = *limits::DIMENSIONS.end();
     let number = if c.one_in(200) { c.of(&[0, most + 1, 9]) } else { 1 + c.below(most) };
     let mut kinds: Vec<u8> = (0..number).map(|_| some_kind(c)).collect();
+    if c.one_in(40) && number > 0 {
+        kinds[c.below(number) as usize] = FLOAT32.number;
+    }
     if c.one_in(200) && number > 0 {
         kinds[c.below(number) as usize] = c.of(&no_kinds());
     }
@@ -304,7 +317,7 @@ fn footer(c: &mut Chance, d: &Description, tiles: u64, domain: &Box_) -> Foot {
     Foot { data, file_size }
 }
 
-fn window(c: &mut Chance, d: &Description) -> (Vec<u8>, Vec<u8>) {
+pub fn window(c: &mut Chance, d: &Description) -> (Vec<u8>, Vec<u8>) {
     let mut kinds: Vec<u8> = d.kinds.clone();
     match c.below(60) {
         0 => kinds.push(some_kind(c)),
@@ -525,7 +538,7 @@ fn write(c: &mut Chance) -> Case {
     }
     let tiles = if c.one_in(30) { c.of(&[0, n + 1, limits::TILES.end() + 1, u64::MAX]) } else { n };
     let fanout = if c.one_in(30) { c.of(&[0, 1, limits::FANOUT.end() + 1, (1 << 32) + 2, u64::MAX]) } else { f };
-    let length = rules::tree_length(&p, n, f).expect("numbers within the limits");
+    let length = rules::described_length(&p, n, f).expect("numbers within the limits");
     let room = c.of(&[0, 7, length / 2, length - 1, length, length, length, length + 1, length + 40]);
     Case::Write { d, tiles, fanout, leaves, room }
 }
@@ -572,25 +585,36 @@ pub fn make(c: &mut Chance) -> Case {
         return if what == 9 { Case::Sizes { tiles, list } } else { Case::Offsets { var, tiles, size, list, tile } };
     }
     let d = description(c);
-    let p = plain(&d);
-    let mut t = tree(c, &p);
-    if what < 4 {
-        let (kinds, ends) = window(c, &d);
-        let mut tiles = if c.one_in(40) { c.of(&[0, t.tiles + 1, limits::TILES.end() + 1, u64::MAX]) } else { t.tiles };
-        if c.one_in(30) {
-            tiles = many(c);
-            if c.one_in(2) {
-                t.body = front(c, tiles);
-            }
+    if what >= 4 {
+        let (file_size, footer, tiles, tree) = pair(c, &d);
+        if what >= 6 {
+            return Case::Open { d, file_size, footer, tree };
         }
-        if c.one_in(3) {
-            damage(c, &mut t.body);
-        }
-        if what == 3 {
-            return batch(c, d, tiles, t.body);
-        }
-        return Case::Query { d, tiles, tree: t.body, kinds, ends, room: c.below(t.tiles + 3) as usize };
+        let tile = if c.one_in(5) { c.of(&[tiles, u64::MAX, tiles - 1]) } else { c.below(tiles) };
+        return Case::Footer { d, file_size, footer, tile };
     }
+    let mut t = tree(c, &plain(&d));
+    let (kinds, ends) = window(c, &d);
+    let mut tiles = if c.one_in(40) { c.of(&[0, t.tiles + 1, limits::TILES.end() + 1, u64::MAX]) } else { t.tiles };
+    if c.one_in(30) {
+        tiles = many(c);
+        if c.one_in(2) {
+            t.body = front(c, tiles);
+        }
+    }
+    if c.one_in(3) {
+        damage(c, &mut t.body);
+    }
+    if what == 3 {
+        return batch(c, d, tiles, t.body);
+    }
+    Case::Query { d, tiles, tree: t.body, kinds, ends, room: c.below(t.tiles + 3) as usize }
+}
+
+/// A footer with the size of its file, its tiles and a tree, of one description; either may have faults.
+pub fn pair(c: &mut Chance, d: &Description) -> (u64, Vec<u8>, u64, Vec<u8>) {
+    let p = plain(d);
+    let mut t = tree(c, &p);
     let mut domain = t.root.clone();
     for side in &mut domain {
         side.0 -= c.below(2) as i64 * 5;
@@ -609,14 +633,10 @@ pub fn make(c: &mut Chance) -> Case {
     if c.one_in(4) {
         damage(c, &mut f.data);
     }
-    if what < 6 {
-        let tile = if c.one_in(5) { c.of(&[t.tiles, u64::MAX, t.tiles - 1]) } else { c.below(t.tiles) };
-        return Case::Footer { d, file_size: f.file_size, footer: f.data, tile };
-    }
     if c.one_in(3) {
         damage(c, &mut t.body);
     }
-    Case::Open { d, file_size: f.file_size, footer: f.data, tree: t.body }
+    (f.file_size, f.data, t.tiles, t.body)
 }
 
 #[derive(Clone, Copy)]

@@ -8,16 +8,18 @@
 //!     differential values [INPUTS] [SEED]
 //!     differential committed [INPUTS] [SEED]
 //!     differential replay [INPUTS] [SEED]
+//!     differential convert [INPUTS] [SEED]
 //!
 //! The second compares whole trees and lists of so many tiles, or of as many as there may be. The third compares bodies that arrive in parts, the
 //! fourth mins, maxes, sums and null counts, the fifth listings, the
-//! sixth logs that are replayed.
+//! sixth logs that are replayed, the seventh what trees and footers of float32 dimensions are converted to.
 //!
 //! Every number of every answer and every place of every buffer is compared, the ones that must stay as they were too. Some of the inputs are lent
 //! from pages with unreadable pages on both sides.
 
 mod cases;
 mod committed;
+mod converter;
 mod guard;
 mod library;
 mod listing;
@@ -129,8 +131,9 @@ impl Tally {
 }
 
 fn main() {
-    let compare: [(&str, fn(u64, u64)); 4] = [
+    let compare: [(&str, fn(u64, u64)); 5] = [
         ("parts", parts::compare), ("values", values::compare), ("committed", committed::compare), ("replay", replay::compare),
+        ("convert", converter::compare),
     ];
     if let Some((_, compare)) = compare.iter().find(|(name, _)| std::env::args().nth(1).is_some_and(|a| a == *name)) {
         let numbers: Vec<u64> = std::env::args().skip(2).map(|a| a.parse().expect("a number")).collect();
@@ -157,7 +160,7 @@ fn main() {
         }
     }
     if first == 0 && inputs >= 100_000 {
-        for number in (0..=rules::refusal::SUM).chain([rules::refusal::RUNS, rules::refusal::INFINITE, rules::refusal::ROOM]) {
+        for number in (0..=rules::refusal::SUM).chain([rules::refusal::RUNS, rules::refusal::INFINITE, rules::refusal::ROOM, rules::refusal::RETIRED]) {
             assert!(tally.refusals.contains_key(&number), "no input was refused with {number}");
         }
         assert!(tally.guarded >= 5_000);

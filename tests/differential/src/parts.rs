@@ -169,7 +169,7 @@ pub fn compare(inputs: u64, seed: u64) {
         compared += 1;
     }
     if inputs >= 100_000 {
-        for number in (0..=refusal::OUTSIDE_DOMAIN).chain([refusal::WORK]) {
+        for number in (0..=refusal::OUTSIDE_DOMAIN).chain([refusal::WORK, refusal::RETIRED]) {
             assert!(refusals.contains_key(&number), "no body in parts was refused with {number}");
         }
     }

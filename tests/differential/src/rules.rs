@@ -63,6 +63,7 @@ pub mod refusal {
     pub const REPEATED: u64 = 25;
     pub const ROOM: u64 = 26;
     pub const NULL_COUNT: u64 = 27;
+    pub const RETIRED: u64 = 28;
 }
 
 #[derive(Clone, Copy, Debug, PartialEq)]
@@ -93,6 +94,15 @@ pub fn width(number: u8) -> usize {
 
 impl Description {
     pub fn check(&self) -> Answer<()> {
+        self.check_limits()?;
+        match self.kinds.iter().position(|k| *k == FLOAT32.number) {
+            Some(dimension) => refuse(refusal::RETIRED, dimension),
+            None => Ok(()),
+        }
+    }
+
+    /// All that was asked of a description when float32 was a kind like the others.
+    pub fn check_limits(&self) -> Answer<()> {
         let kinds = limits::DIMENSIONS.contains(&(self.kinds.len() as u64)) && self.kinds.iter().all(|k| kind(*k).is_some());
         if kinds && limits::FIELDS.contains(&self.fields) && limits::CAPACITY.contains(&self.capacity) {
             Ok(())
@@ -200,6 +210,11 @@ pub struct Footer {
 
 pub fn footer(d: &Description, file_size: u64, data: &[u8]) -> Answer<Footer> {
     d.check()?;
+    described_footer(d, file_size, data)
+}
+
+/// What is said of a footer once the description has passed.
+pub fn described_footer(d: &Description, file_size: u64, data: &[u8]) -> Answer<Footer> {
     if data.len() < 12 {
         return refuse(refusal::BYTES, data.len());
     }
@@ -328,7 +343,13 @@ pub fn shape(d: &Description, n: u64, body: &[u8]) -> Answer<Shape> {
 }
 
 pub fn open(d: &Description, file_size: u64, foot: &[u8], body: &[u8]) -> Answer<(u64, u64, u64)> {
-    let f = footer(d, file_size, foot)?;
+    d.check()?;
+    described_open(d, file_size, foot, body)
+}
+
+/// What is said of both once the description has passed.
+pub fn described_open(d: &Description, file_size: u64, foot: &[u8], body: &[u8]) -> Answer<(u64, u64, u64)> {
+    let f = described_footer(d, file_size, foot)?;
     second(d, &f, body).map_err(|r| Refused { which: 1, ..r })
 }
 
@@ -454,6 +475,11 @@ pub fn box_test(d: &Description, data: &[u8], kinds: &[u8], ends: &[u8]) -> Answ
 
 pub fn query(d: &Description, n: u64, body: &[u8], kinds: &[u8], ends: &[u8]) -> Answer<(Vec<u32>, u64)> {
     d.check()?;
+    described_query(d, n, body, kinds, ends)
+}
+
+/// What is said of a query once the description has passed.
+pub fn described_query(d: &Description, n: u64, body: &[u8], kinds: &[u8], ends: &[u8]) -> Answer<(Vec<u32>, u64)> {
     if !limits::TILES.contains(&n) {
         return refuse(refusal::TILES, 0);
     }
@@ -531,6 +557,10 @@ pub fn flat(d: &Description, s: &Shape, body: &[u8], window: &[Range]) -> (Vec<u
 /// The bytes of a tree of so many tiles, by the counts of its levels.
 pub fn tree_length(d: &Description, n: u64, f: u64) -> Answer<usize> {
     d.check()?;
+    described_length(d, n, f)
+}
+
+pub fn described_length(d: &Description, n: u64, f: u64) -> Answer<usize> {
     if !limits::TILES.contains(&n) {
         return refuse(refusal::TILES, 0);
     }

@@ -391,7 +391,10 @@ fn var_body(c: &mut Chance, n: u64) -> Vec<u8> {
 
 fn make_counts(c: &mut Chance) -> Case {
     let n = some_tiles(c);
-    let kinds: Vec<u8> = (0..1 + c.below(3)).map(|_| c.of(&[0, 1, 2, 3, 10])).collect();
+    let mut kinds: Vec<u8> = (0..1 + c.below(3)).map(|_| c.of(&[0, 1, 3, 10])).collect();
+    if c.one_in(20) {
+        *kinds.last_mut().unwrap() = rules::FLOAT32.number;
+    }
     let mut d = Description { kinds, fields: 1 + c.below(3), capacity: c.of(&[1, 2, 7, 100, *limits::CAPACITY.end()]) };
     let width = d.box_bytes();
     let mut footer = cases::footer_around(&d, n, &vec![0; width]);
@@ -533,7 +536,7 @@ pub fn compare(inputs: u64, seed: u64) {
     }
     if inputs >= 100_000 {
         use refusal::*;
-        let first = [0, DESCRIPTION, BYTES, NOT_A_NUMBER, TILES, COUNT, TILE_OFFSETS, VERSION, NAME_SIZE, LAST_CELLS].map(|number| (number, 0));
+        let first = [0, DESCRIPTION, BYTES, NOT_A_NUMBER, TILES, COUNT, TILE_OFFSETS, VERSION, NAME_SIZE, LAST_CELLS, RETIRED].map(|number| (number, 0));
         let second = [BYTES, NOT_A_NUMBER, REVERSED, COUNT, TILE_OFFSETS, NULL_COUNT].map(|number| (number, 1));
         for expected in first.into_iter().chain(second) {
             assert!(tally.refusals.contains_key(&expected), "no input was refused with {expected:?}");

@@ -8,7 +8,7 @@ use Rattle.answers.specs.Checks.{otherwise}
 use Rattle.answers.proofs.Checks.{join-next, joined-first}
 use Rattle.order.specs.Little.{little}
 use Rattle.description.specs.Limits.{leastVersion, mostVersion, leastName, mostName, outside}
-use Rattle.description.specs.Description.{descriptionRefusal}
+use Rattle.description.specs.Description.{limitsRefusal}
 use Rattle.footer.specs.Fields.{start, numberOutside}
 use Rattle.footer.proofs.check_head.Statement.{statement}
 use Rattle.footer.proofs.check_head.Tie as tie
@@ -22,7 +22,7 @@ returns c =
     let d = o0 .before in
     let v = d .before .before in
     let a = v .before .before .before .args in
-    let j0 : o0 .or .result ≡ otherwise (descriptionRefusal (a .description)) (a .entry .further) = o0 .or .ensures ∙ rw (d .check .ensures) in
+    let j0 : o0 .or .result ≡ otherwise (limitsRefusal (a .description)) (a .entry .further) = o0 .or .ensures ∙ rw (d .check-limits .ensures) in
     let j1 = join-next (o1 .or2 .ensures) j0 (o1 .before .when .ensures) in
     let e : o2 .before .when2 .result ≡ numberOutside (a .bytes .now) 4 leastVersion mostVersion refusals.version 0 =
     o2 .before .when2 .ensures ∙ rw (d .before .outside .ensures, v .u32-at .ensures) in

@@ -6,19 +6,19 @@ use borrow.Author.Tests.{eq-eqb, ne-eqb}
 use Rattle.description.specs.Description.{boxBytes}
 use Rattle.tree.proofs.Table.{shape-bytes}
 use Rattle.rtree.proofs.Passed.{box-bytes-most}
-use Rattle.written.specs.Writing.{lengthAnswer}
+use Rattle.written.specs.Writing.{lengthAnswerBy}
 use Rattle.written.proofs.Tree.{sizes-clear}
 use Rattle.leaves.proofs.body_length.Statement.{statement}
 use Rattle.leaves.proofs.body_length.Tie as tie
 
 returns : tie.Need-returns
-unfolding lengthAnswer
+unfolding lengthAnswerBy
 returns c =
     let e = c .before .before .before .check-sizes .ensures in
     c .refused .ensures ∙ rw (ne-eqb _ 0 (rw e at (c .before .if1 .taken)), e)
 
 returns-2 : tie.Need-returns-2
-unfolding lengthAnswer
+unfolding lengthAnswerBy
 returns-2 c =
     let b = c .before .before in
     let k = b .before .before .before in

@@ -8,12 +8,12 @@ use Rattle.answers.specs.Checks.{check}
 use Rattle.answers.proofs.Checks.{join-next, joined-first}
 use Rattle.description.specs.Limits.{leastTiles, mostTiles, leastFanout, mostFanout, outside}
 use Rattle.description.specs.Description.{descriptionRefusal}
-use Rattle.written.specs.Writing.{sizesRefusal}
+use Rattle.written.specs.Writing.{sizesRefusalBy}
 use Rattle.leaves.proofs.check_sizes.Statement.{statement}
 use Rattle.leaves.proofs.check_sizes.Tie as tie
 
 returns : tie.Need-returns
-unfolding sizesRefusal
+unfolding sizesRefusalBy
 returns c =
     let w = c .before .before .before in
     let x = w .before .before .before .before .args in

@@ -1,4 +1,4 @@
--- `query::check_asked` meets its contract: the three checks in turn, and nothing said after 1. Assumes nothing.
+-- `query::check_asked` meets its contract: the three checks in turn. Assumes nothing.
 use mathlib.Core.Path.{_≡_, sym, ap, _∙_}
 use mathlib.Core.List.{[], _∷_}
 use borrow.Author.Needs.{needs}
@@ -14,7 +14,7 @@ use Rattle.query.proofs.check_asked.Statement.{statement}
 use Rattle.query.proofs.check_asked.Tie as tie
 
 -- three checks, joined as code joins them
-joined : (r s w : Refusal) → (w .number ≡ 0 → w ≡ none) → otherwise (otherwise r s) w ≡ first (r ∷ none ∷ s ∷ w ∷ [])
+joined : (r s w : Refusal) → (w .number ≡ 0 → w ≡ none) → otherwise (otherwise r s) w ≡ first (r ∷ s ∷ w ∷ [])
 unfolding first
 joined r s w h = regroup r s w ∙ ap (λ (x : Refusal). otherwise r (otherwise s x)) (sym (last w h))
 

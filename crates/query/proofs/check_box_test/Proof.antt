@@ -10,12 +10,12 @@ use Rattle.answers.specs.Refusals as refusals
 use Rattle.answers.proofs.Checks.{joined-first, join-next}
 use Rattle.description.specs.Description.{boxBytes, descriptionRefusal}
 use Rattle.boxes.specs.Windows.{windowRefusal}
-use Rattle.query.specs.BoxTest.{boxTestRefusal}
+use Rattle.query.specs.BoxTest.{boxTestRefusalBy}
 use Rattle.query.proofs.check_box_test.Statement.{statement}
 use Rattle.query.proofs.check_box_test.Tie as tie
 
 returns : tie.Need-returns
-unfolding boxTestRefusal
+unfolding boxTestRefusalBy
 returns c =
     let w = c .before in
     let o = w .before in
