@@ -12,7 +12,7 @@ import textwrap
 
 PEERS = {"rust": "plain Rust", "boost": "Boost.Geometry", "libspatialindex": "libspatialindex"}
 # Other ways of our own that a way of ours stands beside.
-OWN = {"whole": "opening the whole", "single": "single calls", "queries": "single queries"}
+OWN = {"whole": "opening the whole", "single": "single calls", "queries": "single queries", "division": "a division a tile"}
 BLOCKS = (4_096, 65_536, 1_048_576)
 COLOURS = {"ours": "#1d4ed8", "rust": "#d97706", "boost": "#047857", "libspatialindex": "#7c3aed"}
 # Of dimensions, and of a field's values.
@@ -21,6 +21,8 @@ VALUE_KINDS = ["int32", "int64", "float32", "float64", "uint64"]
 FANOUTS = ["2", "10", "16", "1024"]
 # What is done to a body of mins or maxes, and how that is called.
 VALUES = {"check and read": "checked, and all values read", "check together": "checked together"}
+# The windows on a dense grid, and how they are called.
+DENSE = {"small": "small windows", "large": "large windows", "no room": "large windows, no room"}
 
 
 def read(text):
@@ -95,6 +97,8 @@ def groups(ratios, pictured=False):
         made += [("single", "a batch of 32 windows, from C", of("single", "batch"))]
         for boxes in (100, 1_000):
             made += [(peer, f"a log replayed, {boxes:,} boxes a query", of(peer, "replay", f"boxes={boxes}")) for peer in ("rust", "queries")]
+        for size, name in DENSE.items():
+            made += [(peer, f"a dense grid, {name}", of(peer, "dense", size)) for peer in ("rust", "division")]
     return [group for group in made if group[2]]
 
 
@@ -171,6 +175,17 @@ def replay_table(rows):
         ours, rust, single = (float(row[name]) for name in ("ours ns", "rust ns", "single ns"))
         known = [row["kind"], row["D"], row["n"], row["bytes"], short(row["looked"])]
         made.append([*known, short(ours), short(rust), short(ours / rust), short(single), short(ours / single)])
+    return table(header, made)
+
+
+def dense_table(rows):
+    header = ["Kind", "D", "Order", "Window", "Found", "Ours", "a tile", "Rust", "a tile", "/ Rust", "Division", "/ division"]
+    made = []
+    for row in rows:
+        found, ours, rust, division = (float(row[name]) for name in ("found", "ours ns", "rust ns", "division ns"))
+        each = [short(taken / found) if row["window"] != "no room" else "-" for taken in (ours, rust)]
+        known = [row["kind"], row["D"], row["order"], row["window"], short(found)]
+        made.append([*known, short(ours), each[0], short(rust), each[1], short(ours / rust), short(division), short(ours / division)])
     return table(header, made)
 
 
@@ -337,6 +352,11 @@ def page(tables, ratios):
             record in ten differs. Beside it plain Rust that reads, asks and writes the same, and as many single queries from C, with no room.
             Bytes and times are a record's."""),
         replay_table(tables["replay"]),
+        "## A dense grid",
+        prose("""Grids of about a million tiles, in both orders, with windows of 4 tiles along each dimension, of half of the tiles along each,
+            and of as many with no room for them. Beside it plain Rust that writes the tiles row by row, and plain Rust that works each
+            tile's number out by divisions. Times are a query's."""),
+        dense_table(tables["dense"]),
     ]
     return "\n\n".join(sections) + "\n"
 

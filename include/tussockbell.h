@@ -1,6 +1,6 @@
 /* Tussockbell for C and C++: the footer and the R-tree of a TileDB fragment's metadata, tile offsets, var offsets and
- * tile sizes, mins, maxes, sums and null counts; R-trees written from their leaves; and footers and R-trees of float32
- * dimensions converted to float64.
+ * tile sizes, mins, maxes, sums and null counts; R-trees written from their leaves; footers and R-trees of float32
+ * dimensions converted to float64; and the grids of dense fragments.
  *
  * Every function takes any input and writes every place of its answer array; none keeps a pointer. A byte string is a
  * pointer and a length. With length 0 nothing is read or written through the pointer, which may then be null. A pointer
@@ -15,12 +15,12 @@
  * tussockbell_convert, tussockbell_convert_length and tussockbell_convert_footer take it as it was taken before.
  *
  * An answer's first two places are the refusal's number, 0 for none, and its place in the bytes that were lent; where
- * the refusal is about a window's side or a retired kind, the place is its dimension, from 0, and where it is about a
- * listing, the line, from 0. After a refusal every other number is 0 unless a comment says otherwise. The answers of
- * tussockbell_schema_name, tussockbell_extent, tussockbell_var_extent, tussockbell_extent_at, tussockbell_range,
- * tussockbell_var_value and tussockbell_var_value_at hold no refusal, and neither do the numbers that a function
- * returns; tussockbell_footer, tussockbell_offsets, tussockbell_var_offsets, tussockbell_values and the like say
- * whether a footer, a list or a body is refused, and why. */
+ * the refusal is about a retired kind or a side of a window or a grid, the place is its dimension, from 0, and where it
+ * is about a listing, the line, from 0. After a refusal every other number is 0 unless a comment says otherwise. The
+ * answers of tussockbell_schema_name, tussockbell_dense_schema_name, tussockbell_extent, tussockbell_var_extent,
+ * tussockbell_extent_at, tussockbell_range, tussockbell_var_value and tussockbell_var_value_at hold no refusal, and
+ * neither do the numbers that a function returns; tussockbell_footer, tussockbell_offsets, tussockbell_var_offsets,
+ * tussockbell_values and the like say whether a footer, a list or a body is refused, and why. */
 #ifndef TUSSOCKBELL_H
 #define TUSSOCKBELL_H
 
@@ -90,6 +90,7 @@ extern "C" {
 #define TUSSOCKBELL_REFUSED_ROOM 26
 #define TUSSOCKBELL_REFUSED_NULL_COUNT 27
 #define TUSSOCKBELL_REFUSED_RETIRED 28
+#define TUSSOCKBELL_REFUSED_GRID 29
 
 /* The text of a refusal number. */
 static inline const char *tussockbell_refusal_text(uint64_t number)
@@ -108,7 +109,7 @@ static inline const char *tussockbell_refusal_text(uint64_t number)
     case TUSSOCKBELL_REFUSED_FLAG:
         return "a flag byte is neither 0 nor 1";
     case TUSSOCKBELL_REFUSED_DENSE:
-        return "dense flag is 1";
+        return "the dense flag is not this entry's";
     case TUSSOCKBELL_REFUSED_NULL_DOMAIN:
         return "null-domain flag is 1";
     case TUSSOCKBELL_REFUSED_NOT_A_NUMBER:
@@ -153,6 +154,8 @@ static inline const char *tussockbell_refusal_text(uint64_t number)
         return "a null count above its tile's cells";
     case TUSSOCKBELL_REFUSED_RETIRED:
         return "a dimension of kind float32, which is retired";
+    case TUSSOCKBELL_REFUSED_GRID:
+        return "a float kind, an extent of 0, or a domain that does not split into whole tiles";
     default:
         return "no refusal number";
     }
@@ -162,8 +165,8 @@ static inline const char *tussockbell_refusal_text(uint64_t number)
 #define TUSSOCKBELL_NUMBER 0
 #define TUSSOCKBELL_PLACE 1
 
-/* tussockbell_footer. The domain has TUSSOCKBELL_DOMAIN_PLACES for each of TUSSOCKBELL_MOST_DIMENSIONS, and each list
- * TUSSOCKBELL_FOOTER_LIST_PLACES. */
+/* tussockbell_footer and tussockbell_dense_footer. The domain has TUSSOCKBELL_DOMAIN_PLACES for each of
+ * TUSSOCKBELL_MOST_DIMENSIONS, and each list TUSSOCKBELL_FOOTER_LIST_PLACES. */
 #define TUSSOCKBELL_FOOTER_VERSION 2
 #define TUSSOCKBELL_FOOTER_NAME_SIZE 3
 #define TUSSOCKBELL_FOOTER_DENSE 4
@@ -283,6 +286,13 @@ static inline const char *tussockbell_refusal_text(uint64_t number)
 /* tussockbell_replay */
 #define TUSSOCKBELL_REPLAY_LENGTH 2
 #define TUSSOCKBELL_REPLAY_PLACES 3
+
+/* tussockbell_dense_check and tussockbell_dense_query. An order of tiles is TileDB's own Layout number. */
+#define TUSSOCKBELL_ROW_MAJOR 0
+#define TUSSOCKBELL_COLUMN_MAJOR 1
+#define TUSSOCKBELL_DENSE_CHECK_PLACES 2
+#define TUSSOCKBELL_DENSE_FOUND 2
+#define TUSSOCKBELL_DENSE_PLACES 3
 
 /* Opens a footer of a metadata file of `file_size` bytes: every number of it. A dimension of the domain is its kind
  * number and the bit patterns of its ends, an end of 4 bytes in the low half. Dimensions past those that there are,
@@ -549,6 +559,45 @@ size_t tussockbell_report(const uint8_t *description, size_t description_length,
 void tussockbell_replay(const uint8_t *kinds, size_t kinds_length, uint64_t fields, uint64_t capacity, uint64_t tiles,
                         const uint8_t *tree, size_t tree_length, const uint8_t *log, size_t log_length, uint8_t *out,
                         size_t out_length, uint64_t *answer /* [TUSSOCKBELL_REPLAY_PLACES] */);
+
+/* Dense fragments, which have no R-tree: their tiles are a grid over a domain. `domain_kinds` and `domain_ends` are the
+ * domain, as a window is given to tussockbell_query. `extents` has the cells of a tile along each dimension, and its
+ * length counts numbers; one that isn't there counts as 0, and those past the dimensions are ignored. The first tile
+ * begins at the domain's minimum. In the order TUSSOCKBELL_ROW_MAJOR the last dimension is the fastest, in
+ * TUSSOCKBELL_COLUMN_MAJOR the first; any other number is TUSSOCKBELL_REFUSED_DESCRIPTION at 0.
+ *
+ * Checks a grid: the description and the order, the domain as a window is checked, then TUSSOCKBELL_REFUSED_GRID at the
+ * first dimension that is of a float kind, has an extent of 0 or does not split into whole tiles, and
+ * TUSSOCKBELL_REFUSED_TILES at 0 for more than TUSSOCKBELL_MOST_TILES tiles. What tussockbell_dense_query refuses of a
+ * grid that is accepted here is the window's. */
+void tussockbell_dense_check(const uint8_t *kinds, size_t kinds_length, uint64_t fields, uint64_t capacity,
+                             const uint8_t *domain_kinds, size_t domain_kinds_length, const uint8_t *domain_ends,
+                             size_t domain_ends_length, const uint64_t *extents, size_t extents_length, uint64_t order,
+                             uint64_t *answer /* [TUSSOCKBELL_DENSE_CHECK_PLACES] */);
+
+/* Which tiles of a grid have a cell in the window? The grid is checked, then the window, as tussockbell_query checks it;
+ * one that lies outside the domain finds nothing, and is not refused. The answer has how many tiles are found; the first
+ * places of `out` hold their numbers, from 0, rising, as many as fit, and the others are untouched, all of them where
+ * the call is refused. Time: by the tiles that are written; a buffer of length 0 costs a product. */
+void tussockbell_dense_query(const uint8_t *kinds, size_t kinds_length, uint64_t fields, uint64_t capacity,
+                             const uint8_t *domain_kinds, size_t domain_kinds_length, const uint8_t *domain_ends,
+                             size_t domain_ends_length, const uint64_t *extents, size_t extents_length, uint64_t order,
+                             const uint8_t *window_kinds, size_t window_kinds_length, const uint8_t *window_ends,
+                             size_t window_ends_length, uint32_t *out, size_t out_length,
+                             uint64_t *answer /* [TUSSOCKBELL_DENSE_PLACES] */);
+
+/* tussockbell_footer for the footer of a dense fragment, whose dense flag is 1. A float kind is TUSSOCKBELL_REFUSED_GRID
+ * at its dimension, before any byte is looked at; a number of tiles other than 0 is TUSSOCKBELL_REFUSED_TILES; the cells
+ * of the last tile may be any number; a dense flag of 0 is TUSSOCKBELL_REFUSED_DENSE. All else is as there. A dense
+ * fragment has no cell counts: tussockbell_cells and tussockbell_total_cells answer 0 of its footer. */
+void tussockbell_dense_footer(const uint8_t *kinds, size_t kinds_length, uint64_t fields, uint64_t capacity,
+                              uint64_t file_size, const uint8_t *footer, size_t footer_length,
+                              uint64_t *answer /* [TUSSOCKBELL_FOOTER_PLACES] */);
+
+/* tussockbell_schema_name for the footer of a dense fragment; 0 and 0 where tussockbell_dense_footer refuses it. */
+void tussockbell_dense_schema_name(const uint8_t *kinds, size_t kinds_length, uint64_t fields, uint64_t capacity,
+                                   uint64_t file_size, const uint8_t *footer, size_t footer_length,
+                                   uint64_t *answer /* [TUSSOCKBELL_NAME_PLACES] */);
 
 #ifdef __cplusplus
 }

@@ -9,6 +9,7 @@
 mod committed;
 mod convert;
 mod data;
+mod dense;
 mod peers;
 mod plain;
 mod replay;
@@ -46,7 +47,7 @@ const TRIALS: usize = 3;
 /// A tree in parts comes in blocks of these sizes.
 const BLOCKS: [usize; 3] = [4_096, 65_536, 1_048_576];
 
-const TABLES: [(&str, &str); 14] = [
+const TABLES: [(&str, &str); 15] = [
     ("run", "rounds\tleast us\ttrials\tsmall windows\tlarge windows\tboost capacities\tlibspatialindex capacities"),
     (
         "query",
@@ -68,6 +69,7 @@ const TABLES: [(&str, &str); 14] = [
     ("batch", "kind\tD\tn\twindow\tfound\tlooked\tbatch ns\tsingle ns"),
     ("values", "what\tof\tn\tours ns\tours ns/value\trust ns\trust ns/value"),
     ("replay", "kind\tD\tn\tbytes\tlooked\tours ns\trust ns\tsingle ns"),
+    ("dense", "kind\tD\torder\twindow\tfound\tours ns\trust ns\tdivision ns"),
 ];
 
 type Run<'a> = Box<dyn FnMut() + 'a>;
@@ -569,6 +571,7 @@ fn main() {
     bench.values_cases();
     bench.batch_cases();
     bench.replay_cases();
+    bench.dense_cases();
     bench.growth();
     let most = arguments.get(2).map_or(usize::MAX, |tiles| tiles.parse().expect("a number of tiles"));
     for tiles in GROWING_TILES.into_iter().filter(|tiles| *tiles <= most) {

@@ -3,6 +3,8 @@
 
 #[path = "plain_convert.rs"]
 pub mod convert;
+#[path = "plain_dense.rs"]
+pub mod dense;
 #[path = "plain_replay.rs"]
 pub mod replay;
 
@@ -61,6 +63,7 @@ pub mod refusal {
     pub const ROOM: u64 = 26;
     pub const NULL_COUNT: u64 = 27;
     pub const RETIRED: u64 = 28;
+    pub const GRID: u64 = 29;
 }
 
 #[derive(Debug, PartialEq)]

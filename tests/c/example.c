@@ -119,6 +119,39 @@ static void channels(uint8_t window_kind, uint64_t low, uint64_t high)
     show("channels", answer, TUSSOCKBELL_QUERY_PLACES);
 }
 
+/* A grid of 10 by 4 tiles over 100 by 100 cells, with extents of 10 and of what is given, and a window over four tiles. */
+static void dense(uint64_t second, size_t extents_length, uint64_t order, int32_t low, size_t room)
+{
+    const uint8_t both[2] = {TUSSOCKBELL_INT32, TUSSOCKBELL_INT32};
+    const uint64_t extents[2] = {10, second};
+    uint8_t domain[16], ends[16];
+    uint32_t out[5] = {9, 9, 9, 9, 9};
+    uint64_t checked[TUSSOCKBELL_DENSE_CHECK_PLACES];
+    uint64_t answer[TUSSOCKBELL_DENSE_PLACES];
+    range(domain, range(domain, 0, 0, 99), -50, 49);
+    range(ends, range(ends, 0, low, 14), -20, 0);
+    tussockbell_dense_check(both, 2, 1, 32, both, 2, domain, sizeof domain, extents, extents_length, order, checked);
+    show("dense check", checked, TUSSOCKBELL_DENSE_CHECK_PLACES);
+    tussockbell_dense_query(both, 2, 1, 32, both, 2, domain, sizeof domain, extents, extents_length, order, both, 2, ends,
+                            sizeof ends, out, room, answer);
+    show("dense", answer, TUSSOCKBELL_DENSE_PLACES);
+    printf("  %s; buffer %" PRIu32 " %" PRIu32 " %" PRIu32 " %" PRIu32 " %" PRIu32 "\n",
+           tussockbell_refusal_text(answer[TUSSOCKBELL_NUMBER]), out[0], out[1], out[2], out[3], out[4]);
+}
+
+/* The footer with another dense flag and another number of tiles, through the dense entry. */
+static void dense_footer(uint8_t *footer, size_t length, uint8_t flag, uint64_t tiles)
+{
+    uint64_t all[TUSSOCKBELL_FOOTER_PLACES];
+    uint64_t name[TUSSOCKBELL_NAME_PLACES];
+    footer[18] = flag;
+    put(footer, 28, tiles, 8);
+    tussockbell_dense_footer(kinds, 1, 1, 32, length + 1000, footer, length, all);
+    show("dense footer", all, TUSSOCKBELL_FOOTER_FILE_SIZES);
+    tussockbell_dense_schema_name(kinds, 1, 1, 32, length + 1000, footer, length, name);
+    show("  name", name, TUSSOCKBELL_NAME_PLACES);
+}
+
 /* Four folders: of the first a wrt is there, of the second nothing, of the third a con and an ign, of the fourth a con. */
 static void committed(const char *last, uint64_t time, size_t room)
 {
@@ -265,5 +298,19 @@ int main(void)
     replay(tree, length, 3 * TUSSOCKBELL_REPLAY_LINE);
     replay(tree, length, 20);
     convert(tree, length, footer, footer_length, size);
+
+    dense(25, 2, TUSSOCKBELL_ROW_MAJOR, 5, 5);
+    dense(25, 2, TUSSOCKBELL_COLUMN_MAJOR, 5, 3);
+    dense(25, 2, TUSSOCKBELL_ROW_MAJOR, 15, 5);
+    dense(30, 2, TUSSOCKBELL_ROW_MAJOR, 5, 5);
+    dense(25, 1, TUSSOCKBELL_ROW_MAJOR, 5, 5);
+    dense(25, 2, 2, 5, 5);
+    tussockbell_dense_query(kinds, 1, 1, 32, NULL, 0, NULL, 0, NULL, 0, 0, NULL, 0, NULL, 0, NULL, 0, sizes);
+    show("nothing dense", sizes, TUSSOCKBELL_DENSE_PLACES);
+    dense_footer(footer, footer_length, 1, 0);
+    dense_footer(footer, footer_length, 1, 3);
+    dense_footer(footer, footer_length, 0, 3);
+    tussockbell_footer(kinds, 1, 1, 32, size, footer, footer_length, all);
+    show("sparse again", all, 8);
     return 0;
 }

@@ -448,5 +448,17 @@ class Seen(unittest.TestCase):
         self.refused("int64", self.windows.astype("i8").view("M8[s]"), "ndarray")
 
 
+class Grids(unittest.TestCase):
+    def test_domains_extents_and_windows(self):
+        d = tb.Description([np.int32, np.dtype("int64")], np.int64(1), np.uint8(250))
+        domain, window = np.array([[0, 99], [-50, 49]]), np.array([[5, 14], [-20, 0]])
+        for extents in (np.array([10, 25]), np.array([10, 25], "u8"), np.array([10, 25], "i1")):
+            grid = tb.DenseGrid(d, domain, extents, np.uint8(0))
+            self.assertEqual(grid.query(window, room=np.int64(3)), ([1, 2, 5], 4))
+            self.assertEqual((grid.domain, grid.extents, grid.tiles), (((0, 99), (-50, 49)), (10, 25), 40))
+        self.assertRaises(TypeError, tb.DenseGrid, d, domain, np.array([10.0, 25.0]))
+        self.assertRaises(ValueError, tb.DenseGrid, d, domain, np.array([10, -25]))
+
+
 if __name__ == "__main__":
     unittest.main()

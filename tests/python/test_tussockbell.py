@@ -684,6 +684,7 @@ class Refusals(unittest.TestCase):
             26: (lambda: tb.write_tree_into(ONE, 3, 2, body[56:], bytearray(79)), 0, 0),
             27: (lambda: tb.null_counts(ONE, SAMPLE_SIZE, foot, pieces.entries([0, 0, 6])), 24, 1),
             28: (lambda: tb.read_footer(tb.Description(["int32", "float32"], 1, 32), SAMPLE_SIZE, foot), 1, 0),
+            29: (lambda: tb.DenseGrid(ONE, [(0, 9)], [3]), 0, 0),
         }
         self.assertEqual(list(cases), REFUSALS)
         for number, (ask, place, which) in cases.items():
@@ -1191,7 +1192,8 @@ class Writing(unittest.TestCase):
 
 def everything():
     """All names of the package's modules."""
-    return {name: value for each in (tb, tb._committed, tb._converted, tb._values, tb._replay) for name, value in vars(each).items()}
+    modules = (tb, tb._committed, tb._converted, tb._dense, tb._values, tb._replay)
+    return {name: value for each in modules for name, value in vars(each).items()}
 
 
 class Header(unittest.TestCase):
@@ -1221,10 +1223,10 @@ class Header(unittest.TestCase):
         """Parameters and results as the header declares them."""
         types = {"uint64_t": ctypes.c_uint64, "size_t": ctypes.c_size_t, "void": None}
         declared = re.findall(r"^(\w+) tussockbell_(\w+)\(([^;{]*)\);", self.header, re.M)
-        self.assertEqual(len(declared), 40)
+        self.assertEqual(len(declared), 44)
         asked = {name: function for name, function in everything().items() if name.startswith("_c_")}
         # with a check that the binding has made before
-        checked = {"schema_name", "cells", "total_cells", "extent", "var_extent", "value", "range", "var_value", "sum", "null_count"}
+        checked = {"schema_name", "dense_schema_name", "cells", "total_cells", "extent", "var_extent", "value", "range", "var_value", "sum", "null_count"}
         self.assertEqual({name for _, name, _ in declared if "_c_" + name not in asked}, {*checked, "convert_length", "report"})
         for result, name, parameters in declared:
             if "_c_" + name in asked:

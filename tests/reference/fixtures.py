@@ -2,7 +2,7 @@
 
     fixtures.py DIR     writes a folder a fixture below DIR
 
-Each folder has `footer`, `tree`, `offsets` and `sizes`; `about`: the kinds, N, C, the size of the metadata file and that of the data file,
+`dense` has the footer of a dense fragment alone. Each other folder has `footer`, `tree`, `offsets` and `sizes`; `about`: the kinds, N, C, the size of the metadata file and that of the data file,
 a line each; and `answers`: a line a window, its ends and then the tiles found, the looked-at number, the flat count. Where all kinds are int32 or
 int64 it also has a `description` as the report reads it, and what the report says (`report`).
 
@@ -100,10 +100,19 @@ def sample(folder):
         (place / name).write_bytes(data)
 
 
+def dense(folder):
+    """The footer of a dense fragment, over a domain of 100 by 100 cells."""
+    foot = pieces.Footer(Description(["int32", "int64"], 1, 250), [(0, 99), (-50, 49)], tiles=0, last_cells=0)
+    foot.dense = 1
+    (folder / "dense").mkdir(parents=True, exist_ok=True)
+    (folder / "dense" / "footer").write_bytes(foot.data())
+
+
 def main():
     folder = pathlib.Path(sys.argv[1])
     chance = random.Random(7)
     sample(folder)
+    dense(folder)
     write(folder, "one_tile", 16, ["int32"], 1, 10, 1, chance)
     write(folder, "full_rows", 17, ["int64"], 9, 3, 2, chance)
     write(folder, "short_last_row", 18, ["int32"], 11, 10, 1, chance)

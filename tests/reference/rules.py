@@ -71,6 +71,7 @@ class Refusal:
     ROOM = 26
     NULL_COUNT = 27
     RETIRED = 28
+    GRID = 29
 
 
 def allowed(what, x):

@@ -14,6 +14,8 @@
     names = tb.committed(listing, time).names
     text = tree.replay(log_bytes)
     new_tree = tb.convert_tree(old, file_size, old_footer_bytes, old_tree_bytes)
+    grid = tb.DenseGrid(d, domain, extents)  # of a dense array, which has no tree
+    tiles = grid.query(window).tiles
 
 Every function asks the proved library, and raises `Refused`, with a number and a place, where the library refuses.
 docs/RULES.md has the rules. Numbers outside the limits are refused like any other bad input, however large or small they are.
@@ -71,11 +73,11 @@ from dataclasses import dataclass, field
 from typing import Any, NamedTuple, Optional, Protocol, SupportsFloat, SupportsIndex, Tuple, Union, cast, overload
 
 __all__ = [
-    "Committed", "ConvertedFooter", "Description", "Footer", "Hit", "NullCounts", "Offsets", "Opened", "Refused", "TileRanges",
-    "TileSums", "TileValues", "Tree", "TreeParts", "VarValues", "Window", "box_test", "committed", "convert_footer", "convert_tree",
-    "convert_tree_into", "log_line", "null_counts", "open_tree", "query", "query_batch", "read_footer", "replay", "replay_into",
-    "tile_offsets", "tile_ranges", "tile_sizes", "tile_sums", "tile_values", "tree_length", "var_tile_offsets", "write_tree",
-    "write_tree_into",
+    "Committed", "ConvertedFooter", "DenseFooter", "DenseGrid", "DenseHit", "Description", "Footer", "Hit", "NullCounts", "Offsets",
+    "Opened", "Refused", "TileRanges", "TileSums", "TileValues", "Tree", "TreeParts", "VarValues", "Window", "box_test", "committed",
+    "convert_footer", "convert_tree", "convert_tree_into", "log_line", "null_counts", "open_tree", "query", "query_batch",
+    "read_dense_footer", "read_footer", "replay", "replay_into", "tile_offsets", "tile_ranges", "tile_sizes", "tile_sums",
+    "tile_values", "tree_length", "var_tile_offsets", "write_tree", "write_tree_into",
 ]
 
 __version__ = "1.0.0"
@@ -112,7 +114,7 @@ _TEXTS = {
     3: "version outside the limits",
     4: "name size outside the limits",
     5: "a flag byte is neither 0 nor 1",
-    6: "dense flag is 1",
+    6: "the dense flag is not this entry's",
     7: "null-domain flag is 1",
     8: "a range end is NaN",
     9: "minimum above maximum",
@@ -135,6 +137,7 @@ _TEXTS = {
     26: "the output buffer is too short",
     27: "a null count above its tile's cells",
     28: "a dimension of kind float32, which is retired",
+    29: "a float kind, an extent of 0, or a domain that does not split into whole tiles",
 }
 
 _NUMBER, _PLACE = 0, 1
@@ -234,7 +237,7 @@ _CommittedAnswer = _u64 * _COMMITTED_PLACES
 class Refused(Exception):
     """Raised where the library refuses.
 
-    `number` says why and `text` says it in words. `place` counts in the bytes that were lent, or in the window's dimensions.
+    `number` says why and `text` says it in words. `place` counts in the bytes that were lent, or in the dimensions.
     `which` is 1 where the place counts in the second of two byte strings (the tree of `open_tree`), and 0 elsewhere.
     """
 
@@ -718,12 +721,8 @@ _tuple_as = cast(Callable[[type[Hit], tuple[list[int], int, int]], Hit], tuple._
 
 
 @dataclass(frozen=True)
-class Footer:
-    """The numbers of a fragment's footer. It holds no bytes of the caller's.
-
-    `domain` has the minimum and the maximum of each dimension. The lists have an entry for each field. `total_cells` are the
-    cells of all tiles, and `cells(tile)` those of one.
-    """
+class _FooterNumbers:
+    """What a footer has, be the fragment sparse or dense."""
 
     version: int
     name_size: int
@@ -750,6 +749,16 @@ class Footer:
     fragment: int
     conditions: int
     length: int
+
+
+@dataclass(frozen=True)
+class Footer(_FooterNumbers):
+    """The numbers of a fragment's footer. It holds no bytes of the caller's.
+
+    `domain` has the minimum and the maximum of each dimension. The lists have an entry for each field. `total_cells` are the
+    cells of all tiles, and `cells(tile)` those of one.
+    """
+
     total_cells: int
     _capacity: int = field(repr=False)
 
@@ -765,22 +774,27 @@ def _domain_range(answer: Any, dimension: int) -> tuple[Union[int, float], Union
     return struct.unpack_from(one, low)[0], struct.unpack_from(one, high)[0]
 
 
-def read_footer(description: Description, file_size: SupportsIndex, footer: Bytes) -> Footer:
-    """Reads the footer of a metadata file of `file_size` bytes."""
-    answer, capacity = _FooterAnswer(), description._given[-1]
+def _footer_numbers(
+    ask: Callable[..., None], description: Description, file_size: SupportsIndex, footer: Bytes
+) -> dict[str, Any]:
+    """What one of the functions that read a footer answers, by the attributes of `_FooterNumbers`."""
+    answer = _FooterAnswer()
     with _lend(footer) as view:
-        _c_footer(*description._given, _file_size(file_size), *_lent(view), answer)
+        ask(*description._given, _file_size(file_size), *_lent(view), answer)
         _check(answer)
         copy = bytes(view)
     numbers: dict[str, Any] = {at: answer[place] for at, place in _FOOTER_NUMBERS.items()}
     numbers.update({at: tuple(answer[place : place + description.fields]) for at, place in _FOOTER_LISTS.items()})
-    return Footer(
-        **numbers,
-        schema_name=copy[_NAME_AT : _NAME_AT + numbers["name_size"]],
-        domain=tuple(_domain_range(answer, i) for i in range(len(description.kinds))),
-        total_cells=(numbers["tiles"] - 1) * capacity + numbers["last_tile_cells"],
-        _capacity=capacity,
-    )
+    numbers["schema_name"] = copy[_NAME_AT : _NAME_AT + numbers["name_size"]]
+    numbers["domain"] = tuple(_domain_range(answer, i) for i in range(len(description.kinds)))
+    return numbers
+
+
+def read_footer(description: Description, file_size: SupportsIndex, footer: Bytes) -> Footer:
+    """Reads the footer of a metadata file of `file_size` bytes."""
+    numbers, capacity = _footer_numbers(_c_footer, description, file_size, footer), description._given[-1]
+    total = (numbers["tiles"] - 1) * capacity + numbers["last_tile_cells"]
+    return Footer(**numbers, total_cells=total, _capacity=capacity)
 
 
 def _ask(
@@ -1195,11 +1209,13 @@ def write_tree_into(
             return _write(description, _limited(tiles), _limited(fanout), lent, room)
 
 
-# ---- listings, what is known of a tile's values, logs of queries, old trees: modules that stand on what is above, so they come last
+# ---- listings, what is known of a tile's values, logs of queries, old trees, dense fragments: modules that stand on what is above,
+# so they come last
 
 from tussockbell import _converted, _replay  # noqa: E402
 from tussockbell._committed import Committed, committed  # noqa: E402
 from tussockbell._converted import ConvertedFooter, convert_footer, convert_tree, convert_tree_into  # noqa: E402
+from tussockbell._dense import DenseFooter, DenseGrid, DenseHit, read_dense_footer  # noqa: E402
 from tussockbell._replay import log_line, replay, replay_into  # noqa: E402
 from tussockbell._values import (  # noqa: E402
     NullCounts, TileRanges, TileSums, TileValues, VarValues, null_counts, tile_ranges, tile_sums, tile_values,

@@ -23,6 +23,11 @@ writes the footer and the tree of a fragment from before float32 was retired wit
 kinds and the file size that goes with the new footer. Each file is written under another name and then renamed, so that
 it is there whole or not at all.
 
+    python3 -m tussockbell dense --kinds int32,int64 --domain 0:99,0:99 --extents 10,25 --window 5:14,30:30
+
+prints how many tiles the grid of a dense array has and how many the window touches, and then the number of each of
+these; `plot` with `--domain` and `--extents` in place of FOOTER and TREE draws it.
+
     python3 -m tussockbell committed LISTING --time 1700000000000
 
 prints the names of the committed folders of a listing that are no later than a time, one a line.
@@ -44,7 +49,7 @@ import sys
 from typing import Any, BinaryIO, NoReturn, Optional, TextIO, Union
 
 import tussockbell as tb
-from tussockbell import _committed, _converted, _picture, _replay
+from tussockbell import _committed, _converted, _dense, _picture, _replay
 
 _REFUSED, _FAILED = 1, 2
 
@@ -114,13 +119,13 @@ def _axes(text: str) -> tuple[int, int]:
 def _arguments(words: list[str]) -> argparse.Namespace:
     parser = _Parser(
         prog="python3 -m tussockbell",
-        description="Which data tiles of a sparse TileDB fragment does a window touch?",
+        description="Which data tiles of a TileDB fragment does a window touch?",
         epilog="Exit status: 0 answered; 1 refused, with number, place and words on standard error; 2 any other "
         "failure, as of a file or of the command.",
         allow_abbrev=False,
     )
     parser.add_argument("--version", action="version", version=f"tussockbell {tb.__version__}")
-    commands = parser.add_subparsers(dest="command", required=True, metavar="query|plot|replay|convert|committed")
+    commands = parser.add_subparsers(dest="command", required=True, metavar="query|plot|replay|convert|dense|committed")
     asked = _Parser(add_help=False, allow_abbrev=False)
     asked.add_argument("--kinds", required=True, help="a kind for each dimension, as int32,float64")
     asked.add_argument("--fields", required=True, type=int, metavar="N", help="entries in each per-field list")
@@ -135,20 +140,25 @@ def _arguments(words: list[str]) -> argparse.Namespace:
         "query", parents=[windowed], allow_abbrev=False, help="list the tiles, with offset, extent and cells of each",
     )
     query.add_argument("--data-size", required=True, type=int, metavar="S", help="bytes of the data file")
-    plot = commands.add_parser("plot", parents=[windowed], allow_abbrev=False, help="draw two dimensions of the tree")
+    gridded = _dense.options(_window)
+    plot = commands.add_parser(
+        "plot", parents=[gridded if _dense.is_grid(words) else windowed], allow_abbrev=False,
+        help="draw two dimensions of the tree, or a dense grid", epilog=_dense.PICTURE,
+    )
     plot.add_argument("--out", required=True, metavar="FILE.svg", help="where the picture goes")
     plot.add_argument("--axes", type=_axes, default=(0, 1), metavar="I,J", help="the dimensions drawn (0,1)")
-    for command in (query, plot):
+    for command in [query] if _dense.is_grid(words) else [query, plot]:
         command.add_argument("footer", metavar="FOOTER", help="the footer's bytes")
         command.add_argument("tree", metavar="TREE", help="the R-tree body's bytes")
     query.add_argument("offsets", metavar="OFFSETS", help="the bytes of the list of tile offsets")
     _replay.add_command(commands, asked)
     _converted.add_command(commands, asked)
+    _dense.add_command(commands, gridded)
     _committed.add_command(commands)
     # A window may start with a minus, which would else count as an option's.
     joined: list[str] = []
     for word in words:
-        if joined and joined[-1] == "--window":
+        if joined and joined[-1] in ("--window", "--domain"):
             joined[-1] += "=" + word
         else:
             joined.append(word)
@@ -196,16 +206,32 @@ def _query(asked: argparse.Namespace, description: tb.Description) -> None:
     _write("".join(lines))
 
 
-def _plot(asked: argparse.Namespace, description: tb.Description) -> None:
+def _check_axes(asked: argparse.Namespace, dimensions: int) -> None:
+    if any(not 0 <= axis < dimensions for axis in asked.axes) or asked.axes[0] == asked.axes[1]:
+        raise ValueError(f"--axes takes two of the dimensions 0 to {dimensions - 1}")
+
+
+def _tree_picture(asked: argparse.Namespace, description: tb.Description) -> str:
     footer, tree = _read(asked.footer), _read(asked.tree)
     opened = tb.open_tree(description, asked.file_size, footer, tree)
     hit = opened.query(asked.window)
-    dimensions = len(description.kinds)
-    if dimensions < 2:
+    if len(description.kinds) < 2:
         raise ValueError("a tree of one dimension has no such picture")
-    if any(not 0 <= axis < dimensions for axis in asked.axes) or asked.axes[0] == asked.axes[1]:
-        raise ValueError(f"--axes takes two of the dimensions 0 to {dimensions - 1}")
-    picture = _picture.draw(description, opened, tree, asked.window, hit, asked.axes)
+    _check_axes(asked, len(description.kinds))
+    return _picture.draw(description, opened, tree, asked.window, hit, asked.axes)
+
+
+def _grid_picture(asked: argparse.Namespace, description: tb.Description) -> str:
+    grid = _dense.grid_of(asked, description)
+    hit = grid.query(asked.window)
+    if len(grid.domain) != 2:
+        raise ValueError("only a grid of two dimensions has a picture")
+    _check_axes(asked, 2)
+    return _picture.draw_grid(grid, asked.window, hit, asked.axes)
+
+
+def _plot(asked: argparse.Namespace, description: tb.Description) -> None:
+    picture = (_grid_picture if hasattr(asked, "domain") else _tree_picture)(asked, description)
     try:
         with open(asked.out, "w", encoding="utf-8") as file:
             file.write(picture)
@@ -225,6 +251,9 @@ def _answer(words: Optional[list[str]]) -> int:
             return _replay.run_command(asked, description, _read, _write)
         if asked.command == "convert":
             _converted.run_command(asked, description, _read, _write)
+            return 0
+        if asked.command == "dense":
+            _dense.run(asked, description, _write)
             return 0
         {"query": _query, "plot": _plot}[asked.command](asked, description)
         return 0

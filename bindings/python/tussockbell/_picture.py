@@ -1,5 +1,6 @@
-"""Two dimensions of an accepted tree as a picture: the tiles' boxes, those that a window touches filled, the boxes above them
-in lighter lines, the window's edge, and axes with numbers. SVG, written with the standard library alone."""
+"""Two dimensions of an accepted tree, or a dense grid of two dimensions, as a picture: the tiles' boxes, those that a
+window touches filled, the boxes above them in lighter lines, the window's edge, and axes with numbers. SVG, written
+with the standard library alone."""
 
 from __future__ import annotations
 
@@ -22,6 +23,7 @@ _MOST = sys.float_info.max
 _STYLE = """\
     text { font: 12px sans-serif; fill: #333 }
     .title { font-size: 15px }
+    .number { fill: #667 }
     .axis, .tick { stroke: #333; fill: none }
     .level { fill: none; stroke: #b9cbe4 }
     .tile { fill: none; stroke: #7f8794; stroke-width: 0.8 }
@@ -163,16 +165,55 @@ def draw(
 ) -> str:
     """The picture of an accepted tree and of what a window, which was not refused, finds in it."""
     levels = list(_boxes(description, tree, _levels(opened.tiles, opened.fanout), axes))
-    root, tiles = levels[0][0], levels[-1]
-    view = _View(_Box(*_padded(root.left, root.right), *_padded(root.low, root.high)))
-    touched = set(hit.tiles)
     title = f"{opened.tiles} tiles, fanout {opened.fanout}: the window touches {hit.found}, {hit.looked} boxes looked at"
+    return _picture(description, levels, window, hit.tiles, axes, title)
+
+
+def _grid_boxes(grid: tb.DenseGrid, axes: tuple[int, int]) -> list[_Box]:
+    """The tiles of a grid of two dimensions, in the order of their numbers."""
+    first, second = (
+        [(low + extent * place - 0.5, low + extent * (place + 1) - 0.5) for place in range((high - low + 1) // extent)]
+        for (low, high), extent in zip(grid.domain, grid.extents)
+    )
+    if grid.order == "row-major":
+        tiles = [(a, b) for a in first for b in second]
+    else:
+        tiles = [(a, b) for b in second for a in first]
+    return [_Box(*sides[axes[0]], *sides[axes[1]]) for sides in tiles]
+
+
+def _number(view: _View, tile: int, box: _Box) -> Iterator[str]:
+    """A tile's number in its middle, where there is room for it."""
+    left, right, top, bottom = view.across(box.left), view.across(box.right), view.up(box.high), view.up(box.low)
+    if right - left > 8 * len(str(tile)) and bottom - top > 14:
+        yield _words(str(tile), (left + right) / 2, (top + bottom) / 2 + 4, more=' class="number"')
+
+
+def draw_grid(grid: tb.DenseGrid, window: Sequence[Any], hit: tb.DenseHit, axes: tuple[int, int]) -> str:
+    """The picture of a grid of two dimensions and of what a window, which was not refused, finds in it, with the tiles'
+    numbers. A cell is a unit square around its place, so that tiles and window end in the middle between two cells."""
+    tiles = _grid_boxes(grid, axes)
+    whole = _Box(tiles[0].left, tiles[-1].right, tiles[0].low, tiles[-1].high)
+    title = f"{grid.tiles} tiles, {grid.order}: the window touches {hit.found}"
+    cells = [(_as_float(low) - 0.5, _as_float(high) + 0.5) for low, high in window]
+    return _picture(grid.description, [[whole], tiles], cells, hit.tiles, axes, title, numbered=True)
+
+
+def _picture(
+    description: tb.Description, levels: Sequence[Sequence[_Box]], window: Sequence[Any], found: Sequence[int],
+    axes: tuple[int, int], title: str, numbered: bool = False,
+) -> str:
+    """The boxes of each level, of which the first has one around all others, and the last has the tiles."""
+    root, tiles, touched = levels[0][0], levels[-1], set(found)
+    view = _View(_Box(*_padded(root.left, root.right), *_padded(root.low, root.high)))
     kinds = {number: name for name, number in tb._NAMES.items()}
     names = [f"dimension {axis} ({kinds[description._given[0][axis]]})" for axis in axes]
     drawn = [_rectangle(view, box, "level") for level in levels[:-1] for box in level]
     drawn += [_rectangle(view, box, "tile") for i, box in enumerate(tiles) if i not in touched]
-    drawn += [_rectangle(view, tiles[i], "tile touched") for i in hit.tiles]
+    drawn += [_rectangle(view, tiles[i], "tile touched") for i in found]
     drawn += _window(view, window, axes)
+    if numbered:
+        drawn += [words for i, box in enumerate(tiles) for words in _number(view, i, box)]
     drawn += _axis_lines(view, (names[0], names[1]))
     drawn.append(_words(title, _WIDTH / 2, 28, more=' class="title"'))
     lines = [

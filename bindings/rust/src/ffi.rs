@@ -468,3 +468,87 @@ pub(crate) fn replay(d: &Description, tiles: u64, tree: &[u8], log: &[u8], out: 
     };
     answer
 }
+
+// ---- dense fragments
+
+use crate::places::{DENSE_CHECK_PLACES, DENSE_PLACES};
+use crate::ranges::Window;
+use crate::Order;
+
+#[rustfmt::skip] // as above
+extern "C" {
+    fn tussockbell_dense_check(kinds: *const u8, kinds_length: usize, fields: u64, capacity: u64,
+                               domain_kinds: *const u8, domain_kinds_length: usize, domain_ends: *const u8,
+                               domain_ends_length: usize, extents: *const u64, extents_length: usize, order: u64,
+                               answer: *mut u64);
+    fn tussockbell_dense_query(kinds: *const u8, kinds_length: usize, fields: u64, capacity: u64,
+                               domain_kinds: *const u8, domain_kinds_length: usize, domain_ends: *const u8,
+                               domain_ends_length: usize, extents: *const u64, extents_length: usize, order: u64,
+                               window_kinds: *const u8, window_kinds_length: usize, window_ends: *const u8,
+                               window_ends_length: usize, out: *mut u32, out_length: usize, answer: *mut u64);
+    fn tussockbell_dense_footer(kinds: *const u8, kinds_length: usize, fields: u64, capacity: u64, file_size: u64,
+                                footer: *const u8, footer_length: usize, answer: *mut u64);
+    fn tussockbell_dense_schema_name(kinds: *const u8, kinds_length: usize, fields: u64, capacity: u64, file_size: u64,
+                                     footer: *const u8, footer_length: usize, answer: *mut u64);
+}
+
+/// A grid that is asked about.
+#[derive(Clone, Copy)]
+pub(crate) struct Grid<'a> {
+    pub description: Description<'a>,
+    pub domain: &'a Window,
+    pub extents: &'a [u64],
+    pub order: Order,
+}
+
+/// Calls one of the functions that start with a grid.
+macro_rules! with_grid {
+    ($function:ident, $grid:expr $(, $more:expr)*) => {{
+        let Grid { description: d, domain, extents, order } = $grid;
+        let (kinds, ends) = (domain.kinds(), domain.ends());
+        $function(
+            bytes(d.kinds), d.kinds.len(), d.fields, d.capacity, bytes(kinds), kinds.len(), ends.as_ptr(), ends.len(),
+            extents.as_ptr(), extents.len(), order as u64 $(, $more)*
+        )
+    }};
+}
+
+pub(crate) fn dense_check(grid: Grid) -> [u64; DENSE_CHECK_PLACES] {
+    let mut answer = [0; DENSE_CHECK_PLACES];
+    // SAFETY: pointers and lengths of slices, and an answer array of the header's places.
+    unsafe { with_grid!(tussockbell_dense_check, grid, answer.as_mut_ptr()) };
+    answer
+}
+
+pub(crate) fn dense_query(grid: Grid, window: &Window, out: &mut [u32]) -> [u64; DENSE_PLACES] {
+    let (mut answer, kinds, ends) = ([0; DENSE_PLACES], window.kinds(), window.ends());
+    // SAFETY: pointers and lengths of slices, an answer array of the header's places, and a buffer lent to nobody else.
+    unsafe {
+        with_grid!(
+            tussockbell_dense_query,
+            grid,
+            bytes(kinds),
+            kinds.len(),
+            ends.as_ptr(),
+            ends.len(),
+            out.as_mut_ptr(),
+            out.len(),
+            answer.as_mut_ptr()
+        )
+    };
+    answer
+}
+
+pub(crate) fn dense_footer(asked: Asked) -> [u64; FOOTER_PLACES] {
+    let mut answer = [0; FOOTER_PLACES];
+    // SAFETY: pointers and lengths of slices, and an answer array of the header's places.
+    unsafe { with_footer!(tussockbell_dense_footer, asked, answer.as_mut_ptr()) };
+    answer
+}
+
+pub(crate) fn dense_schema_name(asked: Asked) -> [u64; NAME_PLACES] {
+    let mut answer = [0; NAME_PLACES];
+    // SAFETY: pointers and lengths of slices, and an answer array of the header's places.
+    unsafe { with_footer!(tussockbell_dense_schema_name, asked, answer.as_mut_ptr()) };
+    answer
+}

@@ -11,7 +11,18 @@ const MOST_DIMENSIONS: usize = Description::MOST_DIMENSIONS as usize;
 ///
 /// The lists have one entry for each field of the description. [`read_footer`] makes it.
 #[derive(Clone)]
-pub struct Footer<'a> {
+pub struct Footer<'a>(Read<'a>);
+
+/// An accepted footer of a dense fragment: every number of it, its domain, and its schema name.
+///
+/// It counts no cells: [`tiles`](Self::tiles) is 0, and [`last_cells`](Self::last_cells) is whatever stands there.
+/// [`read_dense_footer`] makes it.
+#[derive(Clone)]
+pub struct DenseFooter<'a>(Read<'a>);
+
+/// What was read of a footer, be the fragment sparse or dense.
+#[derive(Clone)]
+struct Read<'a> {
     asked: Asked<'a>,
     answer: [u64; FOOTER_PLACES],
     domain: [Range; MOST_DIMENSIONS],
@@ -33,17 +44,45 @@ pub struct Footer<'a> {
 /// ```
 pub fn read_footer<'a>(description: &Description<'a>, file_size: u64, footer: &'a [u8]) -> Result<Footer<'a>, Refused> {
     let asked = Asked { description: *description, file_size, footer };
-    let answer = ffi::footer(asked);
-    Refused::check(&answer, Which::First)?;
-    let mut domain = [Range::Int64(0, 0); MOST_DIMENSIONS];
-    let places = answer[FOOTER_DOMAIN..].chunks(DOMAIN_PLACES);
-    for ((side, kind), place) in domain.iter_mut().zip(description.kinds).zip(places) {
-        *side = Range::from_bits(*kind, place[DOMAIN_LOW], place[DOMAIN_HIGH]);
-    }
-    Ok(Footer { asked, answer, domain })
+    Ok(Footer(Read::new(asked, ffi::footer(asked))?))
 }
 
-impl<'a> Footer<'a> {
+/// Reads and checks the footer of a dense fragment, of a metadata file of `file_size` bytes.
+///
+/// [`read_footer`] refuses it with [`Refused::DENSE`], and this function a sparse one. A float dimension is
+/// [`Refused::GRID`], and a number of tiles other than 0 [`Refused::TILES`].
+///
+/// ```
+/// use tussockbell::{read_dense_footer, read_footer, Description, Kind, Range};
+///
+/// let bytes = std::fs::read("../../tests/fixtures/dense/footer")?;
+/// let description = Description { kinds: &[Kind::Int32, Kind::Int64], fields: 1, capacity: 250 };
+/// let footer = read_dense_footer(&description, 1182, &bytes)?;
+/// assert_eq!((footer.schema_name(), footer.dense()), (&b"schema"[..], true));
+/// assert_eq!(footer.domain(), [Range::Int32(0, 99), Range::Int64(-50, 49)]);
+/// assert_eq!(read_footer(&description, 1182, &bytes).unwrap_err().number, 6);
+/// # Ok::<(), Box<dyn std::error::Error>>(())
+/// ```
+pub fn read_dense_footer<'a>(
+    description: &Description<'a>,
+    file_size: u64,
+    footer: &'a [u8],
+) -> Result<DenseFooter<'a>, Refused> {
+    let asked = Asked { description: *description, file_size, footer };
+    Ok(DenseFooter(Read::new(asked, ffi::dense_footer(asked))?))
+}
+
+impl<'a> Read<'a> {
+    fn new(asked: Asked<'a>, answer: [u64; FOOTER_PLACES]) -> Result<Read<'a>, Refused> {
+        Refused::check(&answer, Which::First)?;
+        let mut domain = [Range::Int64(0, 0); MOST_DIMENSIONS];
+        let places = answer[FOOTER_DOMAIN..].chunks(DOMAIN_PLACES);
+        for ((side, kind), place) in domain.iter_mut().zip(asked.description.kinds).zip(places) {
+            *side = Range::from_bits(*kind, place[DOMAIN_LOW], place[DOMAIN_HIGH]);
+        }
+        Ok(Read { asked, answer, domain })
+    }
+
     fn number(&self, place: usize) -> u64 {
         self.answer[place]
     }
@@ -56,15 +95,26 @@ impl<'a> Footer<'a> {
         &self.answer[place..][..self.asked.description.fields as usize]
     }
 
-    /// The schema name, which is part of the footer's bytes. It may be any bytes.
-    pub fn schema_name(&self) -> &'a [u8] {
-        let name = ffi::schema_name(self.asked);
+    fn part(&self, name: [u64; NAME_PLACES]) -> &'a [u8] {
         &self.asked.footer[name[NAME_START] as usize..][..name[NAME_LENGTH] as usize]
     }
 
-    /// The fragment's non-empty domain, one range for each dimension. It may serve as a window.
-    pub fn domain(&self) -> &[Range] {
+    fn domain(&self) -> &[Range] {
         &self.domain[..self.asked.description.kinds.len()]
+    }
+}
+
+impl<'a> DenseFooter<'a> {
+    /// The schema name, which is part of the footer's bytes. It may be any bytes.
+    pub fn schema_name(&self) -> &'a [u8] {
+        self.0.part(ffi::dense_schema_name(self.0.asked))
+    }
+}
+
+impl<'a> Footer<'a> {
+    /// The schema name, which is part of the footer's bytes. It may be any bytes.
+    pub fn schema_name(&self) -> &'a [u8] {
+        self.0.part(ffi::schema_name(self.0.asked))
     }
 
     /// The cells of a tile, counted from 0; 0 past the last tile.
@@ -78,29 +128,37 @@ impl<'a> Footer<'a> {
     /// # Ok::<(), Box<dyn std::error::Error>>(())
     /// ```
     pub fn cells(&self, tile: u32) -> u64 {
-        ffi::cells_at(self.tiles(), self.last_cells(), self.asked.description.capacity, tile.into())
+        ffi::cells_at(self.tiles(), self.last_cells(), self.0.asked.description.capacity, tile.into())
     }
 
     /// The cells of all tiles. The library checks the footer again each time.
     pub fn total_cells(&self) -> u64 {
-        ffi::total_cells(self.asked)
+        ffi::total_cells(self.0.asked)
     }
 }
 
 macro_rules! named {
-    ($($name:ident: $how:ident($place:ident) -> $type:ty, $about:literal;)*) => {
-        impl Footer<'_> {
+    ($($footer:ident)*, $names:tt) => {
+        $(named!(@ $footer $names);)*
+    };
+    (@ $footer:ident { $($name:ident: $how:ident($place:ident) -> $type:ty, $about:literal;)* }) => {
+        impl $footer<'_> {
             $(
                 #[doc = $about]
                 pub fn $name(&self) -> $type {
-                    self.$how($place)
+                    self.0.$how($place)
                 }
             )*
+
+            /// The fragment's non-empty domain, one range for each dimension. It may serve as a window.
+            pub fn domain(&self) -> &[Range] {
+                self.0.domain()
+            }
         }
 
-        impl fmt::Debug for Footer<'_> {
+        impl fmt::Debug for $footer<'_> {
             fn fmt(&self, f: &mut fmt::Formatter<'_>) -> fmt::Result {
-                let mut shown = f.debug_struct("Footer");
+                let mut shown = f.debug_struct(stringify!($footer));
                 $(shown.field(stringify!($name), &self.$name());)*
                 shown.field("domain", &self.domain()).finish_non_exhaustive()
             }
@@ -108,13 +166,13 @@ macro_rules! named {
     };
 }
 
-named! {
+named! { Footer DenseFooter, {
     version: number(FOOTER_VERSION) -> u64, "The format version, 16 to 21.";
     name_size: number(FOOTER_NAME_SIZE) -> u64, "The bytes of the schema name.";
-    dense: flag(FOOTER_DENSE) -> bool, "Whether the fragment is dense: false, since that is refused.";
+    dense: flag(FOOTER_DENSE) -> bool, "Whether the fragment is dense: it is in a [`DenseFooter`] alone.";
     null_domain: flag(FOOTER_NULL_DOMAIN) -> bool, "Whether there is no domain: false, since that is refused.";
-    tiles: number(FOOTER_TILES) -> u64, "The number of tiles.";
-    last_cells: number(FOOTER_LAST_CELLS) -> u64, "The cells of the last tile, 1 to the capacity.";
+    tiles: number(FOOTER_TILES) -> u64, "The number of tiles, 0 of a dense fragment.";
+    last_cells: number(FOOTER_LAST_CELLS) -> u64, "The cells of the last tile, 1 to the capacity; dense: any number.";
     timestamps: flag(FOOTER_TIMESTAMPS) -> bool, "Whether the fragment includes timestamps.";
     deletes: flag(FOOTER_DELETES) -> bool, "Whether the fragment includes delete metadata.";
     rtree: number(FOOTER_RTREE) -> u64, "The offset of the R-tree in the metadata file.";
@@ -132,4 +190,4 @@ named! {
     maxes: list(FOOTER_MAXES) -> &[u64], "The offset of each field's tile maximums.";
     sums: list(FOOTER_SUMS) -> &[u64], "The offset of each field's tile sums.";
     null_counts: list(FOOTER_NULL_COUNTS) -> &[u64], "The offset of each field's tile null counts.";
-}
+} }

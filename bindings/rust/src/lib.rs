@@ -1,8 +1,8 @@
-//! Which data tiles of a sparse TileDB fragment does a window touch?
+//! Which data tiles of a TileDB fragment does a window touch?
 //!
 //! Tussockbell reads the fragment's metadata and answers. The library under this crate is proved to do what its
 //! contracts say, for every input; this crate lends it slices and gives its answers names and types. It copies none of
-//! the bytes, and only [`Tree::tiles_in`] and [`query_batch`], over ranges, allocate.
+//! the bytes, and only [`Tree::tiles_in`], [`DenseGrid::tiles_in`] and [`query_batch`], over ranges, allocate.
 //!
 //! - [`read_footer`] reads the footer of `__fragment_metadata.tdb`: every number of it.
 //! - [`open_tree`] opens a footer and an R-tree together and checks every box; the [`Tree`] answers windows.
@@ -18,6 +18,7 @@
 //! - [`committed`] tells which folders of a listing are committed.
 //! - [`report`] writes the report of four files as text.
 //! - [`replay`] asks the queries of a log again, and writes which answers are the logged ones.
+//! - [`DenseGrid`] answers windows over the tiles of a dense array, and [`read_dense_footer`] reads a dense footer.
 //!
 //! Every function takes any input. Bad input is [`Refused`], with a number and a place, and a result buffer then holds
 //! what it held before. Trees and lists are the bodies of their generic tiles, already unfiltered.
@@ -50,6 +51,7 @@
 mod batch;
 mod committed;
 mod convert;
+mod dense;
 #[allow(unsafe_code)]
 mod ffi;
 mod footer;
@@ -66,7 +68,8 @@ mod write;
 pub use batch::{query_batch, query_batch_bytes, Record};
 pub use committed::{committed, Committed};
 pub use convert::{convert_footer, convert_tree, converted_length, ConvertedFooter};
-pub use footer::{read_footer, Footer};
+pub use dense::{DenseAnswer, DenseGrid, Order};
+pub use footer::{read_dense_footer, read_footer, DenseFooter, Footer};
 pub use lists::{tile_offsets, tile_sizes, var_tile_offsets, Extent, TileOffsets};
 pub use parts::{Opened, TreeParts};
 pub use ranges::{Description, Kind, Range};

@@ -87,4 +87,7 @@ places! {
     COMMITTED_PLACES = 3;
     REPLAY_LENGTH = 2;
     REPLAY_PLACES = 3;
+    DENSE_CHECK_PLACES = 2;
+    DENSE_FOUND = 2;
+    DENSE_PLACES = 3;
 }

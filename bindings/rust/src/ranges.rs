@@ -147,6 +147,7 @@ const MOST_SIDES: usize = Description::MOST_DIMENSIONS as usize + 1;
 const RANGE_BYTES: usize = std::mem::size_of::<[u64; 2]>();
 
 /// A window as the library takes it: the kinds of its sides, and their ends, little-endian, one after the other.
+#[derive(Clone, Copy)]
 pub(crate) struct Window {
     kinds: [Kind; MOST_SIDES],
     sides: usize,

@@ -71,7 +71,7 @@ refusals! {
     3 VERSION "version outside the limits";
     4 NAME_SIZE "name size outside the limits";
     5 FLAG "a flag byte is neither 0 nor 1";
-    6 DENSE "dense flag is 1";
+    6 DENSE "the dense flag is not this entry's";
     7 NULL_DOMAIN "null-domain flag is 1";
     8 NOT_A_NUMBER "a range end is NaN";
     9 REVERSED "minimum above maximum";
@@ -94,6 +94,7 @@ refusals! {
     26 ROOM "the output buffer is too short";
     27 NULL_COUNT "a null count above its tile's cells";
     28 RETIRED "a dimension of kind float32, which is retired";
+    29 GRID "a float kind, an extent of 0, or a domain that does not split into whole tiles";
 }
 
 impl Refused {

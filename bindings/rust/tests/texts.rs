@@ -5,7 +5,7 @@
 mod places;
 
 use std::collections::BTreeMap;
-use tussockbell::{Description, Kind, Refused, Which};
+use tussockbell::{Description, Kind, Order, Refused, Which};
 
 const HEADER: &str = include_str!("../../../include/tussockbell.h");
 
@@ -63,6 +63,7 @@ fn places_are_the_headers() {
     places.extend([("RANGE_MIN", 0), ("RANGE_MAX", 1), ("RANGE_PLACES", 2)]);
     places.insert("REPORT_MOST", tussockbell::REPORT_MOST as u64);
     places.insert("REPLAY_LINE", tussockbell::REPLAY_LINE as u64);
+    places.extend([("ROW_MAJOR", Order::RowMajor as u64), ("COLUMN_MAJOR", Order::ColumnMajor as u64)]);
     assert_eq!(part(|name| !is_kind(name) && !is_refusal(name) && !is_limit(name)), places);
 }
 
@@ -86,7 +87,7 @@ fn refusal_numbers_are_the_headers() {
     let named = named!(
         DESCRIPTION BYTES VERSION NAME_SIZE FLAG DENSE NULL_DOMAIN NOT_A_NUMBER REVERSED TILES LAST_CELLS OFFSET FANOUT
         LEVELS OUTSIDE_PARENT OUTSIDE_DOMAIN COUNT TILE_OFFSETS WINDOW SUM WORK RUNS INFINITE BAD_LINE
-        REPEATED ROOM NULL_COUNT RETIRED
+        REPEATED ROOM NULL_COUNT RETIRED GRID
     );
     let mut expected = BTreeMap::from(named);
     expected.insert("NOT_REFUSED", 0);

@@ -30,7 +30,7 @@ nameSize = 4
 abbrev pub flag : ℕ
 flag = 5
 
--- dense flag is 1
+-- the dense flag is not this entry's
 abbrev pub dense : ℕ
 dense = 6
 
@@ -121,3 +121,7 @@ nullCount = 27
 -- a dimension of kind float32, which is retired
 abbrev pub retired : ℕ
 retired = 28
+
+-- a float kind, an extent of 0, or a domain that does not split into whole tiles
+abbrev pub grid : ℕ
+grid = 29

@@ -68,6 +68,8 @@ impl Refusal {
 
     pub const RETIRED: u64 = 28;
 
+    pub const GRID: u64 = 29;
+
     pub fn none() -> Refusal
         ensures { λ r. ⌜ r ≡ none ⌝ }
     {

@@ -4,7 +4,7 @@ ghost use mathlib.Core.Path.{_≡_};
 ghost use lib.ListN.{getD, take, drop};
 ghost use Rattle.footer.specs.Answer.{checkedAnswer, schemaName, cellsOf, tileCells, allCells};
 ghost use Rattle.c_arguments.specs.Described.{describe};
-ghost use Rattle.c_cells.specs.Places.{namePlaces};
+ghost use Rattle.c_answers.specs.Places.{namePlaces};
 
 // Where the schema name stands in the lent footer.
 #[no_mangle]
@@ -25,8 +25,7 @@ pub extern "C" fn tussockbell_schema_name(
 {
     let d = c_arguments::describe(kinds, fields, capacity);
     let r = footer::check(d, file_size, footer);
-    let start = c_arguments::or_zero(r.number == 0, 12);
-    *answer = [start, r.name_size];
+    *answer = c_answers::name_places(r);
 }
 
 // The cells of a tile.

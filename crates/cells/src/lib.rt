@@ -1,17 +1,35 @@
 // The schema name of a footer, and the cells of its tiles.
 use description::Description;
 ghost use mathlib.Core.Path.{_≡_};
-ghost use Rattle.footer.specs.Answer.{cellsOf, schemaName, tileCells, allCells};
+ghost use Prim.Native.Nat.{_+_, _≤_, _<_};
+ghost use lib.ListN.{length, take, drop};
+ghost use Rattle.footer.specs.Answer.{cellsOf, schemaName, denseSchemaName, tileCells, allCells};
 
 // The schema name as that part of the lent footer; an empty part where the footer is refused.
 pub fn schema_name(description: Description, file_size: u64, bytes: &[u8]) -> &[u8]
     ensures { λ r. ⌜ now r ≡ schemaName description «file_size» (now (bytes .entry)) ⌝ }
 {
     let checked = footer::check(description, file_size, bytes);
-    if checked.number != 0 {
+    name_of(bytes, checked.name_size)
+}
+
+// The same of a dense footer.
+pub fn dense_schema_name(description: Description, file_size: u64, bytes: &[u8]) -> &[u8]
+    ensures { λ r. ⌜ now r ≡ denseSchemaName description «file_size» (now (bytes .entry)) ⌝ }
+{
+    let checked = footer::check_dense(description, file_size, bytes);
+    name_of(bytes, checked.name_size)
+}
+
+// A name of so many bytes; an empty part where that is none.
+fn name_of(bytes: &[u8], size: u64) -> &[u8]
+    requires { ⌜ (0 < size → 12 + size ≤ length (now bytes)) ⌝ }
+    ensures { λ r. ⌜ now r ≡ take size (drop 12 (now (bytes .entry))) ⌝ }
+{
+    if size == 0 {
         return &bytes[0..0];
     }
-    let name = checked.name_size as usize;
+    let name = size as usize;
     let end = 12 + name;
     &bytes[12..end]
 }

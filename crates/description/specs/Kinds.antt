@@ -44,13 +44,21 @@ isDatatype n = eqb n (datatype (kindOfDatatype n))
 abbrev pub sameKind : Kind → Kind → Bool
 sameKind a b = eqb (datatype a) (datatype b)
 
+-- a float kind: float32, and float64 too where both widths are asked for
+abbrev pub floatOf : Bool → Kind → Bool
+floatOf both Int32 = false
+floatOf both Int64 = false
+floatOf both Float32 = true
+floatOf both Float64 = both
+floatOf both Uint64 = false
+
 -- the kind that dimensions no longer have
 abbrev pub isFloat32 : Kind → Bool
-isFloat32 Int32 = false
-isFloat32 Int64 = false
-isFloat32 Float32 = true
-isFloat32 Float64 = false
-isFloat32 Uint64 = false
+isFloat32 = floatOf false
+
+-- a kind that a dense array's dimensions don't have
+abbrev pub isFloat : Kind → Bool
+isFloat = floatOf true
 
 -- A pattern's key: a natural number, so that one order serves every kind.
 unfoldable pub key : Kind → ℕ → ℕ

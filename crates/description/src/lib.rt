@@ -1,9 +1,11 @@
 // Kinds, the description and its limits: what comes with the bytes.
 use answers::Refusal;
 ghost use mathlib.Core.Path.{_≡_};
+ghost use Prim.Native.Nat.{_<_};
 ghost use Rattle.description.specs.Limits.{leastTiles, mostTiles, leastFanout, mostFanout, outside};
-ghost use Rattle.description.specs.Kinds.{rangeBytes, datatype, kindOfDatatype, isFloat32};
-ghost use Rattle.description.specs.Description.{limitsRefusal, retiredRefusal, descriptionRefusal, sidesOf, boxBytes};
+ghost use Rattle.description.specs.Kinds.{rangeBytes, datatype, kindOfDatatype, floatOf, isFloat32, isFloat};
+ghost use Rattle.description.specs.Description.{limitsRefusal, kindsRefusal, retiredRefusal, floatRefusal};
+ghost use Rattle.description.specs.Description.{descriptionRefusal, sidesOf, boxBytes};
 
 pub enum Kind {
     Int32,
@@ -57,11 +59,24 @@ impl Kind {
     pub fn is_float32(self) -> bool
         ensures { λ r. ⌜ r ≡ isFloat32 self ⌝ }
     {
+        self.is_float_of(false)
+    }
+
+    // Is it one that a dense array's dimensions don't have?
+    pub fn is_float(self) -> bool
+        ensures { λ r. ⌜ r ≡ isFloat self ⌝ }
+    {
+        self.is_float_of(true)
+    }
+
+    fn is_float_of(self, both: bool) -> bool
+        ensures { λ r. ⌜ r ≡ floatOf both self ⌝ }
+    {
         match self {
             Kind::Int32 => false,
             Kind::Int64 => false,
             Kind::Float32 => true,
-            Kind::Float64 => false,
+            Kind::Float64 => both,
             Kind::Uint64 => false,
         }
     }
@@ -155,6 +170,20 @@ impl Description {
     pub fn check_retired(self) -> Refusal
         ensures { λ r. ⌜ r ≡ retiredRefusal self ⌝ }
     {
+        self.check_kinds(false, Refusal::RETIRED)
+    }
+
+    // 29 at the first float dimension.
+    pub fn check_floats(self) -> Refusal
+        ensures { λ r. ⌜ r ≡ floatRefusal self ⌝ }
+    {
+        self.check_kinds(true, Refusal::GRID)
+    }
+
+    fn check_kinds(self, both: bool, number: u64) -> Refusal
+        requires { ⌜ 0 < number ⌝ }
+        ensures { λ r. ⌜ r ≡ kindsRefusal (floatOf both) number self ⌝ }
+    {
         let kinds = self.kinds;
         let n = sides_of(self.dimensions);
         let mut told = Refusal::none();
@@ -162,7 +191,7 @@ impl Description {
         while i < n {
             let side = kinds[i];
             let k = side.kind;
-            let here = Refusal::when(k.is_float32(), Refusal::RETIRED, i as u64);
+            let here = Refusal::when(k.is_float_of(both), number, i as u64);
             told = told.or(here);
             i += 1;
         }

@@ -5,3 +5,4 @@ pub mod Offsets
 pub mod Parts
 pub mod Passed
 pub mod Rules
+pub mod Dense

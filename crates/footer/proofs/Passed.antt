@@ -85,7 +85,7 @@ module _ (entry : Entry) (d : Description) (F : ℕ) (footer : List ℕ) where
     pub length-field : numberOf d footer "length" + 8 ≡ footerBytes d footer
 
   pub passed-by : entryRefusal entry d F footer .number ≡ 0 → PassedBy
-  unfolding numberOutside
+  unfolding numberOutside noFlag flagIs
   passed-by h =
       let b = both-clear (first (headChecks entry d footer)) _ (rw (footer-parts entry d F footer) at h) in
       let rest = both-clear (first (sizeChecks entry d footer F)) _ (b .1) in

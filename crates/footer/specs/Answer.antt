@@ -17,7 +17,7 @@ use Rattle.footer.specs.declared.Footer.{Footer}
 use Rattle.footer.specs.Fields.{start, nameSizeOf, byteOf, numberOf, tilesOf, lastCellsOf, domainBytes}
 use Rattle.description.specs.Rules.{Rules, current}
 use Rattle.footer.specs.declared.Entry.{Entry}
-use Rattle.footer.specs.Checks.{sparseBy, entryRefusal}
+use Rattle.footer.specs.Checks.{sparseBy, denseEntry, entryRefusal}
 
 -- Tile i, counted from 0, holds C cells, the last one its own number, any i from n on none.
 unfoldable pub cellsOf : ℕ → ℕ → ℕ → ℕ → ℕ
@@ -182,3 +182,14 @@ module _ (d : Description) (F : ℕ) (footer : List ℕ) where
 
   abbrev pub allCells : ℕ
   allCells = allCellsBy current d F footer
+
+-- by the dense entry, which has no cells
+module _ (d : Description) (F : ℕ) (footer : List ℕ) where
+  abbrev pub denseChecked : Checked
+  denseChecked = entryChecked (denseEntry d) d F footer
+
+  abbrev pub denseFooterAnswer : Footer
+  denseFooterAnswer = entryAnswer (denseEntry d) d F footer
+
+  abbrev pub denseSchemaName : List ℕ
+  denseSchemaName = entryName (denseEntry d) d F footer

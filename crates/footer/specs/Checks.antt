@@ -1,15 +1,15 @@
 -- When a footer is refused: the checks in their order.
 -- Assumes nothing.
 use Prim.Native.Nat.{ℕ}
-use mathlib.Core.Bool.{true}
+use mathlib.Core.Bool.{true, false}
 use mathlib.Core.List.{List, [], _∷_, _++_}
 use lib.Dec.{ltb}
 use lib.ListN.{length}
-use Rattle.answers.specs.Checks.{first}
+use Rattle.answers.specs.Checks.{otherwise, first}
 use Rattle.answers.specs.declared.Refusal.{Refusal}
 use Rattle.description.specs.declared.Description.{Description}
 use Rattle.description.specs.Limits.{leastTiles}
-use Rattle.description.specs.Description.{limitsRefusal}
+use Rattle.description.specs.Description.{limitsRefusal, retiredRefusal, floatRefusal}
 use Rattle.description.specs.Rules.{Rules, current}
 use Rattle.footer.specs.declared.Entry.{Entry}
 use Rattle.footer.specs.Fields.{wrongBytes, Field, fieldsOf, start, footerBytes}
@@ -20,6 +20,15 @@ sparse further tiles = record { further = further; flag = 1; least = leastTiles;
 
 abbrev pub sparseBy : Rules → Description → Entry
 sparseBy rules d = sparse (rules .further d) (rules .tiles)
+
+-- The dense entry, by what is said after 1: a dense flag of 0 is refused, there are no tiles, and so no cells of a last
+-- one.
+abbrev pub dense : Refusal → Entry
+dense further = record { further = further; flag = 0; least = 0; most = 0; cells = false }
+
+-- directly after 28 a float kind, 29
+abbrev pub denseEntry : Description → Entry
+denseEntry d = dense (otherwise (retiredRefusal d) (floatRefusal d))
 
 -- 1, and what the entry says after it; fewer than 12 bytes, 2
 abbrev pub frontChecks : Entry → Description → List ℕ → List Refusal
@@ -43,3 +52,7 @@ footerRefusalBy rules d = entryRefusal (sparseBy rules d) d
 
 abbrev pub footerRefusal : Description → ℕ → List ℕ → Refusal
 footerRefusal = footerRefusalBy current
+
+-- by the dense entry
+abbrev pub denseFooterRefusal : Description → ℕ → List ℕ → Refusal
+denseFooterRefusal d = entryRefusal (denseEntry d) d

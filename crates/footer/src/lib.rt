@@ -12,8 +12,8 @@ ghost use Rattle.description.specs.Limits.{mostTiles};
 ghost use Rattle.description.specs.Description.{boxBytes, sidesOf};
 ghost use Rattle.boxes.specs.Boxes.{rangesRefusal};
 ghost use Rattle.footer.specs.Fields.{noFlag, flagIs, numberOutside, fileOffsetsRefusal, onlyIf};
-ghost use Rattle.footer.specs.Checks.{sparse, entryRefusal};
-ghost use Rattle.footer.specs.Answer.{entryChecked, checkedAnswer};
+ghost use Rattle.footer.specs.Checks.{sparse, dense, entryRefusal};
+ghost use Rattle.footer.specs.Answer.{entryChecked, checkedAnswer, denseChecked};
 ghost use Rattle.footer.specs.Code.Places.{headChecks, checksBeforeTiles, checksFromTiles, BeforeTiles, FromTiles};
 
 // What differs between the entries that a footer is read by: what is said of the description after 1; the dense flag
@@ -37,6 +37,19 @@ impl Entry {
             least: Description::LEAST_TILES,
             most: Description::MOST_TILES,
             cells: true,
+        }
+    }
+
+    // That of a dense fragment, which has no tiles of its own.
+    pub fn dense(further: Refusal) -> Entry
+        ensures { λ r. ⌜ r ≡ dense further ⌝ }
+    {
+        Entry {
+            further: further,
+            flag: 0,
+            least: 0,
+            most: 0,
+            cells: false,
         }
     }
 }
@@ -88,6 +101,20 @@ pub fn check(description: Description, file_size: u64, bytes: &[u8]) -> Checked
 {
     check_by(
         Entry::sparse(description.check_retired()),
+        description,
+        file_size,
+        bytes,
+    )
+}
+
+// The same by the dense entry.
+pub fn check_dense(description: Description, file_size: u64, bytes: &[u8]) -> Checked
+    ensures { λ r. ⌜ r ≡ denseChecked description «file_size» (now (bytes .entry)) ⌝ }
+{
+    let retired = description.check_retired();
+    let floats = description.check_floats();
+    check_by(
+        Entry::dense(retired.or(floats)),
         description,
         file_size,
         bytes,

@@ -7,7 +7,7 @@ ghost use mathlib.Core.Path.{_≡_};
 ghost use Prim.Native.Nat.{_+_, _*_, _≤_};
 ghost use lib.ListN.{length};
 ghost use Rattle.description.specs.Limits.{mostFields};
-ghost use Rattle.footer.specs.Answer.{entries, footerAnswer, refusedFooter, acceptedFooter};
+ghost use Rattle.footer.specs.Answer.{entries, footerAnswer, denseFooterAnswer, refusedFooter, acceptedFooter};
 ghost use Rattle.footer_fields.specs.Code.Places.{Whole, footerOf, ReadOf};
 
 // The footer checked, with all of its numbers.
@@ -18,6 +18,17 @@ pub fn open(description: Description, file_size: u64, bytes: &[u8]) -> Footer
         description,
         bytes,
         footer::check(description, file_size, bytes),
+    )
+}
+
+// The same by the dense entry.
+pub fn open_dense(description: Description, file_size: u64, bytes: &[u8]) -> Footer
+    ensures { λ r. ⌜ r ≡ denseFooterAnswer description «file_size» (now (bytes .entry)) ⌝ }
+{
+    fields_of(
+        description,
+        bytes,
+        footer::check_dense(description, file_size, bytes),
     )
 }
 

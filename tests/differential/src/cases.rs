@@ -117,7 +117,7 @@ fn any_number(c: &mut Chance) -> u8 {
 }
 
 /// A kind as it is, and for a number that is none some kind.
-fn known(number: u8) -> u8 {
+pub fn known(number: u8) -> u8 {
     rules::kind(number).unwrap_or(KINDS[usize::from(number) % KINDS.len()]).number
 }
 
@@ -168,7 +168,7 @@ fn front(c: &mut Chance, n: u64) -> Vec<u8> {
     body
 }
 
-type Box_ = Vec<(i64, i64)>;
+pub type Box_ = Vec<(i64, i64)>;
 
 fn bytes(c: &mut Chance, kinds: &[u8], sides: &Box_) -> Vec<u8> {
     let mut data = vec![];
@@ -280,12 +280,12 @@ fn damage(c: &mut Chance, data: &mut Vec<u8>) {
     }
 }
 
-struct Foot {
-    data: Vec<u8>,
-    file_size: u64,
+pub struct Foot {
+    pub data: Vec<u8>,
+    pub file_size: u64,
 }
 
-fn footer(c: &mut Chance, d: &Description, tiles: u64, domain: &Box_) -> Foot {
+pub fn footer(c: &mut Chance, d: &Description, tiles: u64, domain: &Box_) -> Foot {
     let size = c.of(&[1usize, 4, 40, 255]);
     let n = d.fields as usize;
     let total = 64 + size + d.box_bytes() + 88 * n;

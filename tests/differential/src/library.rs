@@ -2,6 +2,7 @@
 
 use crate::cases::{footer_around, Case};
 use crate::guard::Space;
+use crate::right::FOOTER_PLACES;
 use crate::rules::Description;
 
 extern "C" {
@@ -40,7 +41,6 @@ extern "C" {
     ) -> usize;
 }
 
-const FOOTER_PLACES: usize = 730;
 const FOOTER_TILES: usize = 6;
 const FOOTER_LAST_CELLS: usize = 7;
 

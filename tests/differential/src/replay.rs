@@ -38,7 +38,7 @@ fn lines(text: &[u8]) -> Vec<&[u8]> {
 }
 
 /// The ends of an integer kind, least and most.
-fn ends(kind: u8) -> Option<(i128, i128)> {
+pub fn ends_of(kind: u8) -> Option<(i128, i128)> {
     match kind {
         k if k == INT32.number => Some((i32::MIN.into(), i32::MAX.into())),
         k if k == INT64.number => Some((i64::MIN.into(), i64::MAX.into())),
@@ -51,7 +51,7 @@ fn ends(kind: u8) -> Option<(i128, i128)> {
 fn read(d: &Description, line: &[u8]) -> Option<Vec<i128>> {
     let mut kinds = vec![];
     for kind in &d.kinds {
-        kinds.extend([ends(*kind)?; 2]);
+        kinds.extend([ends_of(*kind)?; 2]);
     }
     kinds.extend([(0, u64::MAX.into()); 2]);
     let parts: Vec<&[u8]> = line.split(|byte| *byte == b'\t').collect();
@@ -62,10 +62,14 @@ fn read(d: &Description, line: &[u8]) -> Option<Vec<i128>> {
     parts.iter().zip(&kinds).map(number).collect()
 }
 
+/// The bytes of an end.
+pub fn bytes_of(kind: u8, end: i128) -> Vec<u8> {
+    end.to_le_bytes()[..rules::width(kind) / 2].to_vec()
+}
+
 /// The window's bytes.
 fn window(d: &Description, numbers: &[i128]) -> Vec<u8> {
-    let end = |i: usize| numbers[i].to_le_bytes()[..rules::width(d.kinds[i / 2]) / 2].to_vec();
-    (0..2 * d.kinds.len()).flat_map(end).collect()
+    (0..2 * d.kinds.len()).flat_map(|i| bytes_of(d.kinds[i / 2], numbers[i])).collect()
 }
 
 /// The number found and the number looked at, if the query isn't refused.
@@ -131,7 +135,8 @@ fn right(case: &Case) -> ([u64; 3], Vec<u8>) {
 
 // ---- cases
 
-fn kinds(c: &mut Chance) -> Vec<u8> {
+/// Integer kinds mostly, and within the limits mostly.
+pub fn kinds(c: &mut Chance) -> Vec<u8> {
     let most = *limits::DIMENSIONS.end();
     let number = if c.one_in(60) { c.of(&[0, most + 1]) } else { 1 + c.below(most) };
     let mut kinds: Vec<u8> = (0..number).map(|_| c.of(&[INT32, INT64, UINT64]).number).collect();
@@ -144,7 +149,7 @@ fn kinds(c: &mut Chance) -> Vec<u8> {
 
 /// A number near the small ones of a kind, or at its ends.
 fn number(c: &mut Chance, kind: u8, x: i128) -> i128 {
-    let (least, most) = ends(kind).unwrap_or((0, 0));
+    let (least, most) = ends_of(kind).unwrap_or((0, 0));
     let origin = if kind == UINT64.number { 1 << 63 } else { 0 };
     if c.one_in(40) { c.of(&[least, most]) } else { origin + x }
 }
@@ -158,7 +163,7 @@ fn tree(c: &mut Chance, d: &Description) -> (u64, Vec<u8>) {
             let high = low + c.below(8) as i128;
             let (low, high) = (number(c, *kind, low), number(c, *kind, high));
             for end in [low.min(high), low.max(high)] {
-                leaves.extend(&end.to_le_bytes()[..rules::width(*kind) / 2]);
+                leaves.extend(bytes_of(*kind, end));
             }
         }
     }
@@ -184,7 +189,7 @@ fn line(c: &mut Chance, case: &Case) -> Vec<u8> {
         2 => numbers.truncate(c.below(3) as usize),
         3 => {
             let at = c.below(numbers.len() as u64) as usize;
-            let (least, most) = case.d.kinds.get(at / 2).and_then(|kind| ends(*kind)).unwrap_or((0, u64::MAX.into()));
+            let (least, most) = case.d.kinds.get(at / 2).and_then(|kind| ends_of(*kind)).unwrap_or((0, u64::MAX.into()));
             numbers[at] = c.of(&[least, most, least - 1, most + 1, -1, -numbers[at]]);
         }
         _ => (),

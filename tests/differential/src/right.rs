@@ -6,6 +6,9 @@ use crate::rules::{self, Refused};
 /// The numbers of a record: those of a query, and the places that the window used.
 pub const RECORD_PLACES: usize = 5;
 
+/// The numbers of a footer's answer.
+pub const FOOTER_PLACES: usize = 730;
+
 fn refused(r: &Refused, rest: usize) -> Vec<u64> {
     let mut answer = vec![r.number, r.place];
     answer.resize(2 + rest, 0);
@@ -113,11 +116,19 @@ pub fn right(case: &Case) -> (Vec<u64>, Vec<u32>) {
 }
 
 fn footer_numbers(d: &rules::Description, file_size: u64, data: &[u8], tile: u64) -> Vec<u64> {
+    let read = rules::footer(d, file_size, data);
+    let mut answer = footer_places(d, data, &read);
+    answer.extend(read.map_or([0, 0], |f| [rules::cells(&f, d.capacity, tile), (f.tiles - 1) * d.capacity + f.last_cells]));
+    answer
+}
+
+/// The places of a footer's answer, and after them where the schema name starts and its bytes.
+pub fn footer_places(d: &rules::Description, data: &[u8], read: &rules::Answer<rules::Footer>) -> Vec<u64> {
     let mut answer = vec![];
     let no_side = [rules::INT64.number as u64, 0, 0];
     let most = |limits: std::ops::RangeInclusive<u64>| *limits.end() as usize;
     let (dimensions, fields) = (most(rules::limits::DIMENSIONS), most(rules::limits::FIELDS));
-    match rules::footer(d, file_size, data) {
+    match read {
         Ok(f) => {
             answer.extend([0, 0]);
             answer.extend(&f.numbers);
@@ -138,14 +149,13 @@ fn footer_numbers(d: &rules::Description, file_size: u64, data: &[u8], tile: u64
                 answer.extend(places);
             }
             answer.extend([f.name.0 as u64, f.name.1 as u64]);
-            answer.extend([rules::cells(&f, d.capacity, tile), (f.tiles - 1) * d.capacity + f.last_cells]);
         }
         Err(r) => {
-            answer.extend(refused(&r, 12));
+            answer.extend(refused(r, 12));
             for _ in 0..dimensions {
                 answer.extend(no_side);
             }
-            answer.resize(answer.len() + 11 * fields + 4, 0);
+            answer.resize(answer.len() + 11 * fields + 2, 0);
         }
     }
     answer

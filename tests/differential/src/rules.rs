@@ -64,6 +64,7 @@ pub mod refusal {
     pub const ROOM: u64 = 26;
     pub const NULL_COUNT: u64 = 27;
     pub const RETIRED: u64 = 28;
+    pub const GRID: u64 = 29;
 }
 
 #[derive(Clone, Copy, Debug, PartialEq)]
@@ -439,7 +440,7 @@ pub fn window_of(kinds: &[u8], ends: &[u8]) -> Vec<Range> {
 }
 
 /// The window, if its kinds and ends are in order.
-fn checked_window(d: &Description, kinds: &[u8], ends: &[u8]) -> Answer<Vec<Range>> {
+pub fn checked_window(d: &Description, kinds: &[u8], ends: &[u8]) -> Answer<Vec<Range>> {
     if kinds.len() != d.kinds.len() {
         return refuse(refusal::WINDOW, 0);
     }

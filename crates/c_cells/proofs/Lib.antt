@@ -1,2 +1,0 @@
--- Laws that more than one proof of this crate cites, or that stand beside a long one.
-pub mod SchemaName

@@ -1,2 +1,0 @@
--- The definitions that the exported functions' contracts cite.
-pub mod Places
