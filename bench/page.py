@@ -95,6 +95,7 @@ def groups(ratios, pictured=False):
             made += [("whole", f"a tree in blocks of {block:,} bytes", of("whole", f"block={block}"))]
             made += [("whole", f"in blocks of {block:,}, f = 2", of("whole", f"block={block}", "f=2"))]
         made += [("single", "a batch of 32 windows, from C", of("single", "batch"))]
+        made += [("rust", f"read plans, {length:,} tiles", of("rust", "plan", f"run={length}")) for length in (32, 1_000, 100_000)]
         for boxes in (100, 1_000):
             made += [(peer, f"a log replayed, {boxes:,} boxes a query", of(peer, "replay", f"boxes={boxes}")) for peer in ("rust", "queries")]
         for size, name in DENSE.items():
@@ -357,6 +358,11 @@ def page(tables, ratios):
             and of as many with no room for them. Beside it plain Rust that writes the tiles row by row, and plain Rust that works each
             tile's number out by divisions. Times are a query's."""),
         dense_table(tables["dense"]),
+        "## Read plans",
+        prose("""What is read for a run of tiles of 1,000 bytes, across gaps of at most 4,096 bytes: over a list that was accepted, and with the
+            check of the list. The run has its tiles in no order, or rising for each of 32 windows, as a batch leaves them. Plain Rust
+            copies the run, sorts it with `sort_unstable`, leaves repeats out and merges neighbours."""),
+        pair_table({"what": "What", "run": "Run", "order": "Order", "n": "n", "ranges": "Ranges"}, tables["plan"], "tile"),
     ]
     return "\n\n".join(sections) + "\n"
 

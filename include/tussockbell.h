@@ -294,6 +294,13 @@ static inline const char *tussockbell_refusal_text(uint64_t number)
 #define TUSSOCKBELL_DENSE_FOUND 2
 #define TUSSOCKBELL_DENSE_PLACES 3
 
+/* tussockbell_read_plan, tussockbell_var_read_plan and tussockbell_read_plan_at */
+#define TUSSOCKBELL_PLAN_RANGES 2
+#define TUSSOCKBELL_PLAN_TILES 3
+#define TUSSOCKBELL_PLAN_OUTSIDE 4
+#define TUSSOCKBELL_PLAN_BYTES 5
+#define TUSSOCKBELL_PLAN_PLACES 6
+
 /* Opens a footer of a metadata file of `file_size` bytes: every number of it. A dimension of the domain is its kind
  * number and the bit patterns of its ends, an end of 4 bytes in the low half. Dimensions past those that there are,
  * and all of them after a refusal, are an int64 range 0 to 0, so that their kind place is 1. List places past
@@ -598,6 +605,40 @@ void tussockbell_dense_footer(const uint8_t *kinds, size_t kinds_length, uint64_
 void tussockbell_dense_schema_name(const uint8_t *kinds, size_t kinds_length, uint64_t fields, uint64_t capacity,
                                    uint64_t file_size, const uint8_t *footer, size_t footer_length,
                                    uint64_t *answer /* [TUSSOCKBELL_NAME_PLACES] */);
+
+/* Which bytes of the data file are read for the tiles that `run` names, in any order and however often: the found tiles
+ * of a query or of a whole batch as they stand in its result buffer. Rising by tile, two neighbours among the named
+ * tiles that have bytes are in one range exactly if at most `gap` bytes lie between them. A range is its start and its
+ * length, two places of `out`; ranges rise, and as many whole ones as fit are written, the rest of `out` untouched. The
+ * answer has how many ranges there are; how many different tiles below `tiles` the run names, those without bytes too;
+ * how many entries of the run are not below `tiles`, each time they stand there, which name nothing; and how many bytes
+ * all ranges have. The list is checked first, as tussockbell_offsets does; then a work buffer of fewer than `tiles` / 8
+ * bytes, rounded up, is TUSSOCKBELL_REFUSED_WORK at 0. A refusal leaves `out` as it was. What the work buffer holds
+ * before does not matter, and afterwards it may hold anything. It overlaps nothing else that is lent. Time: linear in
+ * list and run. */
+void tussockbell_read_plan(uint64_t tiles, uint64_t size, const uint8_t *list, size_t list_length, uint64_t gap,
+                           const uint32_t *run, size_t run_length, uint8_t *work, size_t work_length, uint64_t *out,
+                           size_t out_length, uint64_t *answer /* [TUSSOCKBELL_PLAN_PLACES] */);
+
+/* tussockbell_read_plan for a list of var offsets. A tile that has no bytes neither makes a range nor joins two. */
+void tussockbell_var_read_plan(uint64_t tiles, uint64_t size, const uint8_t *list, size_t list_length, uint64_t gap,
+                               const uint32_t *run, size_t run_length, uint8_t *work, size_t work_length, uint64_t *out,
+                               size_t out_length, uint64_t *answer /* [TUSSOCKBELL_PLAN_PLACES] */);
+
+/* The same with no check of the list, for one that tussockbell_offsets or tussockbell_var_offsets accepts with these
+ * numbers. Over other bytes a tile's are those that tussockbell_extent_at tells, and a difference below 0 counts as 0. */
+void tussockbell_read_plan_at(uint64_t tiles, uint64_t size, const uint8_t *list, size_t list_length, uint64_t gap,
+                              const uint32_t *run, size_t run_length, uint8_t *work, size_t work_length, uint64_t *out,
+                              size_t out_length, uint64_t *answer /* [TUSSOCKBELL_PLAN_PLACES] */);
+
+/* tussockbell_extent_at of each entry of a run, two places of `out` an entry, in the run's order, as many whole ones as
+ * fit; the rest of `out` is untouched. */
+void tussockbell_run_extents_at(uint64_t tiles, uint64_t size, const uint8_t *list, size_t list_length, const uint32_t *run,
+                                size_t run_length, uint64_t *out, size_t out_length);
+
+/* tussockbell_cells_at of each entry of a run, in the run's order, as many as fit; the rest of `out` is untouched. */
+void tussockbell_run_cells_at(uint64_t tiles, uint64_t last_cells, uint64_t capacity, const uint32_t *run,
+                              size_t run_length, uint64_t *out, size_t out_length);
 
 #ifdef __cplusplus
 }

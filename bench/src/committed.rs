@@ -93,7 +93,7 @@ fn plain(listing: &[u8], time: u64, out: &mut [u32]) -> Result<u64, Refused> {
 }
 
 /// Numbers from a seed (SplitMix64).
-fn next(seed: &mut u64) -> u64 {
+pub fn next(seed: &mut u64) -> u64 {
     *seed = seed.wrapping_add(0x9e37_79b9_7f4a_7c15);
     let z = (*seed ^ (*seed >> 30)).wrapping_mul(0xbf58_476d_1ce4_e5b9);
     let z = (z ^ (z >> 27)).wrapping_mul(0x94d0_49bb_1331_11eb);

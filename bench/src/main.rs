@@ -12,6 +12,7 @@ mod data;
 mod dense;
 mod peers;
 mod plain;
+mod plan;
 mod replay;
 mod values;
 
@@ -47,7 +48,7 @@ const TRIALS: usize = 3;
 /// A tree in parts comes in blocks of these sizes.
 const BLOCKS: [usize; 3] = [4_096, 65_536, 1_048_576];
 
-const TABLES: [(&str, &str); 15] = [
+const TABLES: [(&str, &str); 16] = [
     ("run", "rounds\tleast us\ttrials\tsmall windows\tlarge windows\tboost capacities\tlibspatialindex capacities"),
     (
         "query",
@@ -70,6 +71,7 @@ const TABLES: [(&str, &str); 15] = [
     ("values", "what\tof\tn\tours ns\tours ns/value\trust ns\trust ns/value"),
     ("replay", "kind\tD\tn\tbytes\tlooked\tours ns\trust ns\tsingle ns"),
     ("dense", "kind\tD\torder\twindow\tfound\tours ns\trust ns\tdivision ns"),
+    ("plan", "what\trun\torder\tn\tranges\tours ns\tours ns/tile\trust ns\trust ns/tile"),
 ];
 
 type Run<'a> = Box<dyn FnMut() + 'a>;
@@ -572,6 +574,7 @@ fn main() {
     bench.batch_cases();
     bench.replay_cases();
     bench.dense_cases();
+    bench.plan_cases();
     bench.growth();
     let most = arguments.get(2).map_or(usize::MAX, |tiles| tiles.parse().expect("a number of tiles"));
     for tiles in GROWING_TILES.into_iter().filter(|tiles| *tiles <= most) {

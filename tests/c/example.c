@@ -197,6 +197,41 @@ static void convert(const uint8_t *tree, size_t length, uint8_t *footer, size_t 
     show("open float64", opened, TUSSOCKBELL_OPEN_PLACES);
 }
 
+typedef void plan_function(uint64_t, uint64_t, const uint8_t *, size_t, uint64_t, const uint32_t *, size_t, uint8_t *,
+                           size_t, uint64_t *, size_t, uint64_t *);
+
+/* What is read for a run of tiles, with room for some numbers and a work buffer of some bytes. */
+static void plan(const char *what, plan_function *ask, const uint8_t *list, uint64_t gap, size_t work_length, size_t room)
+{
+    static const uint32_t run[4] = {2, 0, 2, 7};
+    uint8_t work[1] = {0xa5};
+    uint64_t out[4] = {9, 9, 9, 9};
+    uint64_t answer[TUSSOCKBELL_PLAN_PLACES];
+    ask(3, 300, list, 32, gap, run, 4, work, work_length, out, room, answer);
+    show(what, answer, TUSSOCKBELL_PLAN_PLACES);
+    show("  out", out, 4);
+}
+
+/* Read plans, and extents and cells of many tiles. */
+static void plans(void)
+{
+    static const uint32_t run[4] = {2, 0, 2, 7};
+    uint8_t list[32];
+    uint64_t out[8];
+    put(list, put(list, put(list, put(list, 0, 3, 8), 0, 8), 100, 8), 250, 8);
+    plan("a gap that is too wide", tussockbell_read_plan, list, 149, 1, 4);
+    plan("a gap", tussockbell_read_plan, list, 150, 1, 4);
+    plan("room for a range and a half", tussockbell_read_plan_at, list, 0, 1, 3);
+    plan("no work buffer", tussockbell_read_plan, list, 0, 0, 4);
+    tussockbell_run_extents_at(3, 300, list, 32, run, 4, out, 8);
+    show("extents", out, 8);
+    tussockbell_run_cells_at(3, 5, 32, run, 4, out, 4);
+    show("cells", out, 4);
+    put(list, 24, 300, 8);
+    plan("a last tile without bytes", tussockbell_var_read_plan, list, 0, 1, 4);
+    plan("the same as no var list", tussockbell_read_plan, list, 0, 1, 4);
+}
+
 int main(void)
 {
     uint8_t tree[80];
@@ -312,5 +347,6 @@ int main(void)
     dense_footer(footer, footer_length, 0, 3);
     tussockbell_footer(kinds, 1, 1, 32, size, footer, footer_length, all);
     show("sparse again", all, 8);
+    plans();
     return 0;
 }

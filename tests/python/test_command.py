@@ -172,8 +172,8 @@ class Query(unittest.TestCase):
         """Which has 8 + 8L + B times all boxes, of 2^24 tiles in pairs and four dimensions of 8 bytes an end."""
         most = 8 + 8 * 25 + 64 * (2**25 - 1)
         words = ["query", *ASKED, "--window", "12:21", SAMPLE[0], "/dev/stdin", SAMPLE[2]]
-        code = "import sys, tussockbell.__main__ as m; assert m._most_bytes() == int(sys.argv[1])\n"
-        code += "m._most_bytes = lambda: int(sys.argv[2])\nsys.exit(m.main(sys.argv[3:]))"
+        code = "import sys, tussockbell.__main__ as m, tussockbell._files as f; assert f._most_bytes() == int(sys.argv[1])\n"
+        code += "f._most_bytes = lambda: int(sys.argv[2])\nsys.exit(m.main(sys.argv[3:]))"
         for limit, expected in ((80, 0), (79, 2)):
             with open(SAMPLE[1], "rb") as tree:
                 cat = subprocess.Popen(["cat"], stdin=tree, stdout=subprocess.PIPE)

@@ -1,4 +1,4 @@
-"""Arrays of the real numpy at the Python binding: windows, boxes and leaves of every dtype, byte order, layout and
+"""Arrays of the real numpy at the Python binding: windows, boxes, leaves and tile numbers of every dtype, byte order, layout and
 shape. Each is answered as the same Python numbers are one by one, or is a TypeError."""
 
 import pathlib
@@ -458,6 +458,56 @@ class Grids(unittest.TestCase):
             self.assertEqual((grid.domain, grid.extents, grid.tiles), (((0, 99), (-50, 49)), (10, 25), 40))
         self.assertRaises(TypeError, tb.DenseGrid, d, domain, np.array([10.0, 25.0]))
         self.assertRaises(ValueError, tb.DenseGrid, d, domain, np.array([10, -25]))
+
+
+class Runs(unittest.TestCase):
+    """Runs of tile numbers, and the ranges of their plans."""
+
+    def setUp(self):
+        self.offsets = tb.tile_offsets(300, 3000, pieces.entries(range(0, 3000, 10)))
+        self.run = [7, 3, 3, 299, 8, 44]
+        self.plan = self.offsets.plan(self.run)
+
+    def test_every_type(self):
+        """None of these numbers is above 119, so that every type of integers holds them."""
+        run, fits = [tile % 120 for tile in self.run], set()
+        right = self.offsets.plan(run), list(self.offsets.extents(run))
+        for dtype in {np.dtype(letter).newbyteorder(order) for letter in LETTERS for order in "<>"}:
+            for array in layouts(typed(run, dtype)):
+                try:
+                    said = self.offsets.plan(array), list(self.offsets.extents(array))
+                except TypeError:
+                    continue
+                self.assertEqual(said, right, msg=dtype)
+                fits.add(dtype)
+        self.assertEqual({dtype.newbyteorder("<") for dtype in fits}, {np.dtype(name) for name in ("u4", "i4", "i8", "u8")})
+
+    def test_other_shapes(self):
+        for array in (np.array(self.run, "u4").reshape(2, 3), np.array(5, "u4"), np.ma.array([1, 2], "u4", mask=[0, 1])):
+            self.assertRaises(TypeError, self.offsets.plan, array)
+        self.assertRaises(TypeError, self.offsets.plan, np.zeros(2, [("tile", "<u4")]))
+        self.assertEqual(len(self.offsets.plan(np.zeros(0, "u4")).ranges), 0)
+
+    def test_ranges_are_an_array(self):
+        array = np.asarray(self.plan.ranges)
+        self.assertEqual((array.dtype, array.shape), (np.dtype("<u8"), (4, 2)))
+        self.assertEqual(array.tolist(), [list(pair) for pair in self.plan.ranges])
+        self.assertTrue(np.shares_memory(array, np.asarray(self.plan.ranges.numbers)))
+        self.assertFalse(array.flags.writeable)
+        ranges = self.offsets.plan([5]).ranges
+        held = np.asarray(ranges)
+        del ranges
+        self.assertEqual(held.tolist(), [[50, 10]])
+        self.assertEqual(np.asarray(self.offsets.plan([]).ranges).shape, (0, 2))
+        self.assertEqual(np.asarray(self.offsets.extents(np.array([1, 0]))).tolist(), [[10, 10], [0, 10]])
+
+    def test_cells(self):
+        foot = pieces.Footer(rules.Description(["int32"], 1, 32), [(0, 24)])
+        footer = tb.read_footer(tb.Description(["int32"], 1, 32), foot.file_size, foot.data())
+        for one in (np.int64(2), np.uint8(2), np.array(2)):
+            self.assertEqual(footer.cells(one), 5)
+        self.assertEqual(np.asarray(footer.cells(np.array([2, 0, 3]))).tolist(), [5, 32, 0])
+        self.assertEqual(np.asarray(footer.cells(np.array([2]))).tolist(), [5])
 
 
 if __name__ == "__main__":

@@ -1192,7 +1192,7 @@ class Writing(unittest.TestCase):
 
 def everything():
     """All names of the package's modules."""
-    modules = (tb, tb._committed, tb._converted, tb._dense, tb._values, tb._replay)
+    modules = (tb, tb._committed, tb._converted, tb._dense, tb._plan, tb._values, tb._replay)
     return {name: value for each in modules for name, value in vars(each).items()}
 
 
@@ -1223,10 +1223,11 @@ class Header(unittest.TestCase):
         """Parameters and results as the header declares them."""
         types = {"uint64_t": ctypes.c_uint64, "size_t": ctypes.c_size_t, "void": None}
         declared = re.findall(r"^(\w+) tussockbell_(\w+)\(([^;{]*)\);", self.header, re.M)
-        self.assertEqual(len(declared), 44)
+        self.assertEqual(len(declared), 49)
         asked = {name: function for name, function in everything().items() if name.startswith("_c_")}
         # with a check that the binding has made before
         checked = {"schema_name", "dense_schema_name", "cells", "total_cells", "extent", "var_extent", "value", "range", "var_value", "sum", "null_count"}
+        checked |= {"read_plan", "var_read_plan"}
         self.assertEqual({name for _, name, _ in declared if "_c_" + name not in asked}, {*checked, "convert_length", "report"})
         for result, name, parameters in declared:
             if "_c_" + name in asked:

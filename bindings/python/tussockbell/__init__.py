@@ -10,6 +10,8 @@
     offsets = tb.tile_offsets(footer.tiles, data_file_size, list_bytes)
     for tile in hit.tiles:
         offset, extent = offsets[tile]
+    for start, length in offsets.plan(hit.tiles, gap=4096).ranges:
+        data = os.pread(file, length, start)
     body = tb.write_tree(d, tiles, fanout, leaf_boxes)
     names = tb.committed(listing, time).names
     text = tree.replay(log_bytes)
@@ -46,7 +48,8 @@ first.
 
 The library is the file that the environment variable TUSSOCKBELL_LIBRARY names, else the one that was installed with this
 package, else build/libtussockbell.so of the checkout that it is in; where it can't be loaded, every call is an OSError.
-All functions may be called from several threads at once, and so may the methods of one `Tree`, `Footer` or `Offsets`;
+All functions may be called from several threads at once, and so may the methods of one `Tree`, `Footer`, `Offsets` or
+`Fragment`;
 one `TreeParts` is for one thread at a time.
 
 `python3 -m tussockbell --help` says what the same does at the command line.
@@ -73,10 +76,10 @@ from dataclasses import dataclass, field
 from typing import Any, NamedTuple, Optional, Protocol, SupportsFloat, SupportsIndex, Tuple, Union, cast, overload
 
 __all__ = [
-    "Committed", "ConvertedFooter", "DenseFooter", "DenseGrid", "DenseHit", "Description", "Footer", "Hit", "NullCounts", "Offsets",
-    "Opened", "Refused", "TileRanges", "TileSums", "TileValues", "Tree", "TreeParts", "VarValues", "Window", "box_test", "committed",
-    "convert_footer", "convert_tree", "convert_tree_into", "log_line", "null_counts", "open_tree", "query", "query_batch",
-    "read_dense_footer", "read_footer", "replay", "replay_into", "tile_offsets", "tile_ranges", "tile_sizes", "tile_sums",
+    "Committed", "ConvertedFooter", "DenseFooter", "DenseGrid", "DenseHit", "Description", "Footer", "Fragment", "Hit", "NullCounts",
+    "Offsets", "Opened", "Plan", "Ranges", "Refused", "TileRanges", "TileSums", "TileValues", "Tree", "TreeParts", "VarValues", "Window",
+    "box_test", "committed", "convert_footer", "convert_tree", "convert_tree_into", "log_line", "null_counts", "open_tree", "query",
+    "query_batch", "read_dense_footer", "read_footer", "replay", "replay_into", "tile_offsets", "tile_ranges", "tile_sizes", "tile_sums",
     "tile_values", "tree_length", "var_tile_offsets", "write_tree", "write_tree_into",
 ]
 
@@ -498,9 +501,11 @@ def _given_window(kinds: bytes, window: Any) -> tuple[bytes, bytes]:
 
 # What an item of a buffer is to a description.
 _BYTES, _ENDS, _RECORDS = "bytes", "ends", "records"
-# The sort of number that a letter stands for, and the letter of the kind that has a sort and a width.
+# The sort of number that a letter stands for, and the letter that has a sort and a width: those of the kinds, and of a tile's number.
 _SORTS = {**dict.fromkeys("ilqn", "signed"), **dict.fromkeys("ILQN", "unsigned"), **dict.fromkeys("fd", "float")}
-_LETTERS = {("signed", 4): "i", ("signed", 8): "q", ("unsigned", 8): "Q", ("float", 4): "f", ("float", 8): "d"}
+_LETTERS = {
+    ("signed", 4): "i", ("signed", 8): "q", ("unsigned", 4): "I", ("unsigned", 8): "Q", ("float", 4): "f", ("float", 8): "d",
+}
 # The parts of a format as PEP 3118 has them. What is none of these stands for no end.
 _PART = re.compile(
     r"(?P<order>[@=<>!^])|(?P<times>\(\d{1,9}(,\d{1,9})*\)|\d{1,9})"
@@ -609,11 +614,15 @@ def _has_bit_fields(of: Any) -> bool:
     return any(len(field) > 2 or _has_bit_fields(field[1]) for field in fields)
 
 
+def _look_at_mask(view: memoryview, what: str) -> None:
+    if getattr(getattr(view.obj, "mask", None), "any", bool)():
+        raise TypeError(f"{what}: an array with masked items, of which the mask can't be lent")
+
+
 def _look_at(kinds: bytes, view: memoryview, what: str, one: bool) -> None:
     """A TypeError where a buffer is not what it is lent as."""
     items, dimensions = _items(kinds, view.format, view.itemsize), len(kinds)
-    if getattr(getattr(view.obj, "mask", None), "any", bool)():
-        raise TypeError(f"{what}: an array with masked items, of which the mask can't be lent")
+    _look_at_mask(view, what)
     if items is None:
         has = f"format {view.format!r}, {view.itemsize} bytes each"
         raise TypeError(f"{what}: items of {has}, where the description's kinds take {_fitting(kinds)}")
@@ -756,15 +765,27 @@ class Footer(_FooterNumbers):
     """The numbers of a fragment's footer. It holds no bytes of the caller's.
 
     `domain` has the minimum and the maximum of each dimension. The lists have an entry for each field. `total_cells` are the
-    cells of all tiles, and `cells(tile)` those of one.
+    cells of all tiles, and `cells` has those of one, or of many in one call.
     """
 
     total_cells: int
     _capacity: int = field(repr=False)
 
-    def cells(self, tile: SupportsIndex) -> int:
-        """The cells of a tile, counted from 0; 0 for any number that is no tile."""
-        return _c_cells_at(self.tiles, self.last_tile_cells, self._capacity, _limited(tile))
+    @overload
+    def cells(self, tile: SupportsIndex) -> int: ...
+
+    @overload
+    def cells(self, tile: Iterable[SupportsIndex]) -> array[int]: ...
+
+    def cells(self, tile: Union[SupportsIndex, Iterable[SupportsIndex]]) -> Union[int, array[int]]:
+        """The cells of a tile, counted from 0; 0 for any number that is no tile. Of many tiles, which `Offsets.plan` says how to
+        give, an array of uint64 items."""
+        given = self.tiles, self.last_tile_cells, self._capacity
+        try:
+            return _c_cells_at(*given, _limited(cast(SupportsIndex, tile)))
+        except TypeError:
+            pass
+        return _plan.cells(*given, cast(Iterable[SupportsIndex], tile))
 
 
 def _domain_range(answer: Any, dimension: int) -> tuple[Union[int, float], Union[int, float]]:
@@ -848,17 +869,25 @@ def _ask_run(
     return records, out
 
 
-def _ask_all(
+def _ask_with_room(
     description: Description, tiles: int, tree: tuple[Optional[int], int], windows: tuple[Any, int], room: Optional[SupportsIndex],
-) -> list[Union[Hit, Refused]]:
+) -> tuple[array[int], array[int]]:
+    """Records and result buffer of a run of windows, with as much room as they find tiles, or as is wanted."""
     most = min(tiles, tree[1] // 8) * windows[1]
     wanted = most if room is None else min(max(operator.index(room), 0), most)
     places = min(wanted, _FIRST_ROOM)
     records, out = _ask_run(description, tiles, tree, windows, places)
     found, used = records[_QUERY_FOUND::_RECORD_PLACES], records[_RECORD_USED::_RECORD_PLACES]
     if used != found and places < wanted:
-        records, out = _ask_run(description, tiles, tree, windows, min(sum(found), wanted))
-        used = records[_RECORD_USED::_RECORD_PLACES]
+        return _ask_run(description, tiles, tree, windows, min(sum(found), wanted))
+    return records, out
+
+
+def _ask_all(
+    description: Description, tiles: int, tree: tuple[Optional[int], int], windows: tuple[Any, int], room: Optional[SupportsIndex],
+) -> list[Union[Hit, Refused]]:
+    records, out = _ask_with_room(description, tiles, tree, windows, room)
+    found, used = records[_QUERY_FOUND::_RECORD_PLACES], records[_RECORD_USED::_RECORD_PLACES]
     listed = [out[end - count : end].tolist() for count, end in zip(used, itertools.accumulate(used))]
     hits = map(_tuple_as, itertools.repeat(Hit), zip(listed, found, records[_QUERY_LOOKED::_RECORD_PLACES]))
     numbers = records[_NUMBER::_RECORD_PLACES]
@@ -1115,6 +1144,23 @@ class Offsets(Sequence[Tuple[int, int]]):
         except IndexError:
             raise IndexError("no such tile") from None
 
+    def plan(self, tiles: Iterable[SupportsIndex], gap: SupportsIndex = 0) -> Plan:
+        """Which bytes of the data file are read for these tiles?
+
+        The tiles may come in any order and more than once, as the found tiles of a whole batch do. They are integers, one by
+        one, or a buffer of them, a numpy array too: uint32 numbers are lent as they are, int32, int64 and uint64 ones are
+        converted, and all others are a TypeError, bytes too. A number that is no tile is counted as `outside`.
+
+        Rising by tile, two neighbours are in one range exactly if at most `gap` bytes lie between them. A tile that has no bytes,
+        as a var list may have, takes no part. A gap outside of 0 to 2^64 - 1 is a ValueError.
+        """
+        return _plan.plan(self._given, tiles, gap)
+
+    def extents(self, tiles: Iterable[SupportsIndex]) -> Ranges:
+        """Offset and extent of many tiles, in their order, in one call; both 0 for a number that is no tile. `plan` says what
+        tiles may be."""
+        return _plan.extents(self._given, tiles)
+
     def _extent(self, tile: int) -> tuple[int, int]:
         answer = _ExtentAnswer()
         _c_extent_at(*self._given, tile, answer)
@@ -1209,13 +1255,15 @@ def write_tree_into(
             return _write(description, _limited(tiles), _limited(fanout), lent, room)
 
 
-# ---- listings, what is known of a tile's values, logs of queries, old trees, dense fragments: modules that stand on what is above,
-# so they come last
+# ---- listings, what is known of a tile's values, logs of queries, old trees, dense fragments, read plans: modules that stand on what
+# is above, so they come last
 
-from tussockbell import _converted, _replay  # noqa: E402
+from tussockbell import _converted, _plan, _replay  # noqa: E402
 from tussockbell._committed import Committed, committed  # noqa: E402
 from tussockbell._converted import ConvertedFooter, convert_footer, convert_tree, convert_tree_into  # noqa: E402
 from tussockbell._dense import DenseFooter, DenseGrid, DenseHit, read_dense_footer  # noqa: E402
+from tussockbell._fragment import Fragment  # noqa: E402
+from tussockbell._plan import Plan, Ranges  # noqa: E402
 from tussockbell._replay import log_line, replay, replay_into  # noqa: E402
 from tussockbell._values import (  # noqa: E402
     NullCounts, TileRanges, TileSums, TileValues, VarValues, null_counts, tile_ranges, tile_sums, tile_values,

@@ -61,7 +61,7 @@ fn bytes(kinds: &[Kind]) -> *const u8 {
 }
 
 /// A description and a footer that are asked about together, with the size of the metadata file.
-#[derive(Clone, Copy)]
+#[derive(Clone, Copy, PartialEq)]
 pub(crate) struct Asked<'a> {
     pub description: Description<'a>,
     pub file_size: u64,
@@ -551,4 +551,80 @@ pub(crate) fn dense_schema_name(asked: Asked) -> [u64; NAME_PLACES] {
     // SAFETY: pointers and lengths of slices, and an answer array of the header's places.
     unsafe { with_footer!(tussockbell_dense_schema_name, asked, answer.as_mut_ptr()) };
     answer
+}
+
+// ---- read plans
+
+use crate::places::PLAN_PLACES;
+use crate::Extent;
+
+#[rustfmt::skip] // as above
+extern "C" {
+    fn tussockbell_read_plan(tiles: u64, size: u64, list: *const u8, list_length: usize, gap: u64, run: *const u32,
+                             run_length: usize, work: *mut u8, work_length: usize, out: *mut u64, out_length: usize,
+                             answer: *mut u64);
+    fn tussockbell_var_read_plan(tiles: u64, size: u64, list: *const u8, list_length: usize, gap: u64, run: *const u32,
+                                 run_length: usize, work: *mut u8, work_length: usize, out: *mut u64,
+                                 out_length: usize, answer: *mut u64);
+    fn tussockbell_read_plan_at(tiles: u64, size: u64, list: *const u8, list_length: usize, gap: u64, run: *const u32,
+                                run_length: usize, work: *mut u8, work_length: usize, out: *mut u64, out_length: usize,
+                                answer: *mut u64);
+    fn tussockbell_run_extents_at(tiles: u64, size: u64, list: *const u8, list_length: usize, run: *const u32,
+                                  run_length: usize, out: *mut u64, out_length: usize);
+    fn tussockbell_run_cells_at(tiles: u64, last_cells: u64, capacity: u64, run: *const u32, run_length: usize,
+                                out: *mut u64, out_length: usize);
+}
+
+/// A list of offsets, by its number of tiles and the size of its data file, and a run of tile numbers.
+#[derive(Clone, Copy)]
+pub(crate) struct Run<'a> {
+    pub tiles: u64,
+    pub size: u64,
+    pub list: &'a [u8],
+    pub run: &'a [u32],
+}
+
+/// Ranges as numbers: an [`Extent`] is its two numbers, in this order.
+fn numbers(out: &mut [Extent]) -> (*mut u64, usize) {
+    (out.as_mut_ptr().cast(), 2 * out.len())
+}
+
+/// One of the functions that plan what is read.
+macro_rules! plans {
+    ($($name:ident $function:ident;)*) => {
+        $(
+            pub(crate) fn $name(lent: Run, gap: u64, work: &mut [u8], out: &mut [Extent]) -> [u64; PLAN_PLACES] {
+                let mut answer = [0; PLAN_PLACES];
+                let (Run { tiles, size, list, run }, (out, out_length)) = (lent, numbers(out));
+                let (list, list_length, run, run_length) = (list.as_ptr(), list.len(), run.as_ptr(), run.len());
+                let (work, work_length, answer_at) = (work.as_mut_ptr(), work.len(), answer.as_mut_ptr());
+                // SAFETY: pointers and lengths of slices, of which work buffer and ranges are lent to nobody else, and an
+                // answer array of the header's places.
+                unsafe {
+                    $function(
+                        tiles, size, list, list_length, gap, run, run_length, work, work_length, out, out_length, answer_at,
+                    )
+                };
+                answer
+            }
+        )*
+    };
+}
+
+plans! {
+    read_plan tussockbell_read_plan;
+    var_read_plan tussockbell_var_read_plan;
+    read_plan_at tussockbell_read_plan_at;
+}
+
+pub(crate) fn run_extents_at(lent: Run, out: &mut [Extent]) {
+    let (Run { tiles, size, list, run }, (out, length)) = (lent, numbers(out));
+    // SAFETY: pointers and lengths of slices, the ranges lent to nobody else.
+    unsafe { tussockbell_run_extents_at(tiles, size, list.as_ptr(), list.len(), run.as_ptr(), run.len(), out, length) };
+}
+
+pub(crate) fn run_cells_at(tiles: u64, last_cells: u64, capacity: u64, run: &[u32], out: &mut [u64]) {
+    let (numbers, length) = (out.as_mut_ptr(), out.len());
+    // SAFETY: pointers and lengths of slices, the buffer lent to nobody else.
+    unsafe { tussockbell_run_cells_at(tiles, last_cells, capacity, run.as_ptr(), run.len(), numbers, length) };
 }

@@ -112,6 +112,18 @@ impl<'a> DenseFooter<'a> {
 }
 
 impl<'a> Footer<'a> {
+    pub(crate) fn asked(&self) -> &Asked<'a> {
+        &self.0.asked
+    }
+
+    pub(crate) fn bytes(&self) -> &'a [u8] {
+        self.0.asked.footer
+    }
+
+    pub(crate) fn capacity(&self) -> u64 {
+        self.0.asked.description.capacity
+    }
+
     /// The schema name, which is part of the footer's bytes. It may be any bytes.
     pub fn schema_name(&self) -> &'a [u8] {
         self.0.part(ffi::schema_name(self.0.asked))
@@ -128,7 +140,7 @@ impl<'a> Footer<'a> {
     /// # Ok::<(), Box<dyn std::error::Error>>(())
     /// ```
     pub fn cells(&self, tile: u32) -> u64 {
-        ffi::cells_at(self.tiles(), self.last_cells(), self.0.asked.description.capacity, tile.into())
+        ffi::cells_at(self.tiles(), self.last_cells(), self.capacity(), tile.into())
     }
 
     /// The cells of all tiles. The library checks the footer again each time.

@@ -2,7 +2,8 @@
 //!
 //! Tussockbell reads the fragment's metadata and answers. The library under this crate is proved to do what its
 //! contracts say, for every input; this crate lends it slices and gives its answers names and types. It copies none of
-//! the bytes, and only [`Tree::tiles_in`], [`DenseGrid::tiles_in`] and [`query_batch`], over ranges, allocate.
+//! the bytes, and only [`Tree::tiles_in`], [`DenseGrid::tiles_in`], [`query_batch`], over ranges, and [`Fragment`]
+//! allocate.
 //!
 //! - [`read_footer`] reads the footer of `__fragment_metadata.tdb`: every number of it.
 //! - [`open_tree`] opens a footer and an R-tree together and checks every box; the [`Tree`] answers windows.
@@ -19,6 +20,8 @@
 //! - [`report`] writes the report of four files as text.
 //! - [`replay`] asks the queries of a log again, and writes which answers are the logged ones.
 //! - [`DenseGrid`] answers windows over the tiles of a dense array, and [`read_dense_footer`] reads a dense footer.
+//! - [`read_plan`] and [`var_read_plan`] tell which bytes of a data file are read for a run of tiles; a [`Fragment`]
+//!   has footer, tree and offsets together, and plans for windows.
 //!
 //! Every function takes any input. Bad input is [`Refused`], with a number and a place, and a result buffer then holds
 //! what it held before. Trees and lists are the bodies of their generic tiles, already unfiltered.
@@ -55,9 +58,11 @@ mod dense;
 #[allow(unsafe_code)]
 mod ffi;
 mod footer;
+mod fragment;
 mod lists;
 mod parts;
 mod places;
+mod plan;
 mod ranges;
 mod refused;
 mod replay;
@@ -70,8 +75,10 @@ pub use committed::{committed, Committed};
 pub use convert::{convert_footer, convert_tree, converted_length, ConvertedFooter};
 pub use dense::{DenseAnswer, DenseGrid, Order};
 pub use footer::{read_dense_footer, read_footer, DenseFooter, Footer};
+pub use fragment::{Field, FieldPlan, Fragment, FragmentError};
 pub use lists::{tile_offsets, tile_sizes, var_tile_offsets, Extent, TileOffsets};
 pub use parts::{Opened, TreeParts};
+pub use plan::{read_plan, var_read_plan, work_bytes, Plan};
 pub use ranges::{Description, Kind, Range};
 pub use refused::{Refused, Which};
 pub use replay::{replay, REPLAY_LINE};

@@ -5,8 +5,9 @@ use crate::places::{EXTENT_LENGTH, EXTENT_OFFSET, OFFSETS_TILES, SIZES_SUM};
 use crate::{Refused, Which};
 use std::fmt;
 
-/// Where a tile's bytes are in its data file.
-#[derive(Clone, Copy, Debug, PartialEq, Eq, Hash)]
+/// Where some bytes are in a data file: a tile's, or those of a range of a read plan.
+#[derive(Clone, Copy, Debug, Default, PartialEq, Eq, Hash)]
+#[repr(C)]
 pub struct Extent {
     /// The position of the first byte.
     pub offset: u64,
@@ -79,6 +80,11 @@ impl<'a> TileOffsets<'a> {
     pub fn iter(&self) -> impl DoubleEndedIterator<Item = Extent> + ExactSizeIterator + 'a {
         let list = *self;
         (0..list.len()).map(move |tile| list.at(tile as u64))
+    }
+
+    /// What the library is lent: the number of tiles, the size of the data file and the list.
+    pub(crate) fn lent(&self) -> (u64, u64, &'a [u8]) {
+        (self.tiles, self.size, self.list)
     }
 
     /// The list is an accepted one, and stays so as long as it is borrowed, so that it need not be checked again.

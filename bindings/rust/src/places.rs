@@ -90,4 +90,9 @@ places! {
     DENSE_CHECK_PLACES = 2;
     DENSE_FOUND = 2;
     DENSE_PLACES = 3;
+    PLAN_RANGES = 2;
+    PLAN_TILES = 3;
+    PLAN_OUTSIDE = 4;
+    PLAN_BYTES = 5;
+    PLAN_PLACES = 6;
 }

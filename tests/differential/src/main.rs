@@ -10,11 +10,12 @@
 //!     differential replay [INPUTS] [SEED]
 //!     differential convert [INPUTS] [SEED]
 //!     differential dense [INPUTS] [SEED]
+//!     differential plan [INPUTS] [SEED]
 //!
 //! The second compares whole trees and lists of so many tiles, or of as many as there may be. The third compares bodies that arrive in parts, the
 //! fourth mins, maxes, sums and null counts, the fifth listings, the
 //! sixth logs that are replayed, the seventh what trees and footers of float32 dimensions are converted to, the eighth dense grids and dense
-//! footers.
+//! footers, the ninth read plans.
 //!
 //! Every number of every answer and every place of every buffer is compared, the ones that must stay as they were too. Some of the inputs are lent
 //! from pages with unreadable pages on both sides.
@@ -29,6 +30,7 @@ mod library;
 mod listing;
 mod many;
 mod parts;
+mod plan;
 mod replay;
 mod right;
 mod rules;
@@ -135,10 +137,11 @@ impl Tally {
 }
 
 fn main() {
-    let compare: [(&str, fn(u64, u64)); 6] = [
+    let compare: [(&str, fn(u64, u64)); 7] = [
         ("parts", parts::compare), ("values", values::compare), ("committed", committed::compare), ("replay", replay::compare),
         ("convert", converter::compare),
         ("dense", dense::compare),
+        ("plan", plan::compare),
     ];
     if let Some((_, compare)) = compare.iter().find(|(name, _)| std::env::args().nth(1).is_some_and(|a| a == *name)) {
         let numbers: Vec<u64> = std::env::args().skip(2).map(|a| a.parse().expect("a number")).collect();

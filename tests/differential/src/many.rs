@@ -191,5 +191,6 @@ pub fn compare(n: u64) {
         tree.queries();
     }
     lists(n);
-    println!("many: trees and lists of {n} tiles agree");
+    crate::plan::many(n);
+    println!("many: trees, lists and read plans of {n} tiles agree");
 }

@@ -1,0 +1,2 @@
+-- The definitions that the exported functions' contracts cite.
+pub mod Places
