@@ -88,17 +88,14 @@ pub fn check_layout(width: u32, tiles: u64, body: &[u8]) -> Refusal
 pub fn four_at(tiles: u64, body: &[u8], i: u64) -> u32
     ensures { λ r. ⌜ r ≡ valueOf 4 tiles (now (body .entry)) i ⌝ }
 {
-    let words = body.len() as u64 / 4;
+    let words = body.len() as u64 / 8;
     if tiles <= i {
         return 0;
     }
-    if words <= i {
-        return 0;
+    if words <= i / 2 + 1 {
+        return cut_four(body, i);
     }
     let at = (8 + 4 * i) as usize;
-    if words <= i + 2 {
-        return order::u32_at(body, at);
-    }
     let end = at + 4;
     order::u32_at(&body[at..end], 0)
 }
@@ -119,7 +116,18 @@ pub fn eight_at(tiles: u64, body: &[u8], i: u64) -> u64
     order::u64_at(&body[at..end], 0)
 }
 
-// The eight bytes of value i, where a byte past the end counts 0.
+// The four bytes of value i, where a byte past the end counts 0.
+fn cut_four(body: &[u8], i: u64) -> u32
+    ensures { λ r. ⌜ r ≡ valueAt 4 (now (body .entry)) i ⌝ }
+{
+    let words = body.len() as u64 / 4;
+    if words <= i {
+        return 0;
+    }
+    order::u32_at(body, (8 + 4 * i) as usize)
+}
+
+// The same of eight bytes.
 fn cut_eight(body: &[u8], i: u64) -> u64
     ensures { λ r. ⌜ r ≡ valueAt 8 (now (body .entry)) i ⌝ }
 {

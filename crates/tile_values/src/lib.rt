@@ -243,7 +243,8 @@ fn key_at(kind: Kind, body: &[u8], at: usize) -> u64
     }
 }
 
-// Whether every min is at most its max, which a NaN is not. It goes through all of them, as above.
+// Whether every min is at most its max, which a NaN is not. It goes through all of them, as above. Each arm names its
+// kind and its width: arms that differ in nothing but the kind would be compiled to one loop.
 fn in_order(kind: Kind, n: usize, mins: &[u8], maxes: &[u8]) -> bool
     requires { ⌜ 8 + endBytes kind * n ≤ length (now mins) ⌝ }
     requires { ⌜ 8 + endBytes kind * n ≤ length (now maxes) ⌝ }
@@ -251,21 +252,21 @@ fn in_order(kind: Kind, n: usize, mins: &[u8], maxes: &[u8]) -> bool
         → atMost (ordered kind) (pattern kind (now (mins .entry)) i) (pattern kind (now (maxes .entry)) i) ≡ true) ⌝ }
 {
     match kind {
-        Kind::Int32 => order_of(Kind::Int32, n, mins, maxes),
-        Kind::Int64 => order_of(Kind::Int64, n, mins, maxes),
-        Kind::Float32 => order_of(Kind::Float32, n, mins, maxes),
-        Kind::Float64 => order_of(Kind::Float64, n, mins, maxes),
-        Kind::Uint64 => order_of(Kind::Uint64, n, mins, maxes),
+        Kind::Int32 => order_of(Kind::Int32, 4, n, mins, maxes),
+        Kind::Int64 => order_in_turn(Kind::Int64, n, mins, maxes),
+        Kind::Float32 => order_of(Kind::Float32, 4, n, mins, maxes),
+        Kind::Float64 => order_of(Kind::Float64, 8, n, mins, maxes),
+        Kind::Uint64 => order_in_turn(Kind::Uint64, n, mins, maxes),
     }
 }
 
-fn order_of(kind: Kind, n: usize, mins: &[u8], maxes: &[u8]) -> bool
+fn order_of(kind: Kind, width: usize, n: usize, mins: &[u8], maxes: &[u8]) -> bool
+    requires { ⌜ width ≡ endBytes kind ⌝ }
     requires { ⌜ 8 + endBytes kind * n ≤ length (now mins) ⌝ }
     requires { ⌜ 8 + endBytes kind * n ≤ length (now maxes) ⌝ }
     ensures { λ r. ⌜ (r ≡ true → (i : ℕ) → i < n
         → atMost (ordered kind) (pattern kind (now (mins .entry)) i) (pattern kind (now (maxes .entry)) i) ≡ true) ⌝ }
 {
-    let width = width_of(kind) as usize;
     let mut all = true;
     let mut i: usize = 0;
     while i < n {
@@ -276,6 +277,28 @@ fn order_of(kind: Kind, n: usize, mins: &[u8], maxes: &[u8]) -> bool
         i += 1;
     }
     all
+}
+
+// The same of values of eight bytes, up to the first that is not. Integers of eight bytes are compared one by one in any
+// case: the processors that the library is compiled for have no instruction that compares several.
+fn order_in_turn(kind: Kind, n: usize, mins: &[u8], maxes: &[u8]) -> bool
+    requires { ⌜ 8 ≡ endBytes kind ⌝ }
+    requires { ⌜ 8 + endBytes kind * n ≤ length (now mins) ⌝ }
+    requires { ⌜ 8 + endBytes kind * n ≤ length (now maxes) ⌝ }
+    ensures { λ r. ⌜ (r ≡ true → (i : ℕ) → i < n
+        → atMost (ordered kind) (pattern kind (now (mins .entry)) i) (pattern kind (now (maxes .entry)) i) ≡ true) ⌝ }
+{
+    let mut i: usize = 0;
+    while i < n {
+        let at = 8 + 8 * i;
+        let end = at + 8;
+        let ordered = at_most(kind, &mins[at..end], &maxes[at..end]);
+        if !ordered {
+            return false;
+        }
+        i += 1;
+    }
+    true
 }
 
 // Whether a min is at most a max, each in its own bytes. `key_at` has a second caller, which would keep it from being
