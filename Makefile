@@ -13,7 +13,7 @@ SONAME := libtussockbell.so.$(basename $(basename $(VERSION)))
 PREFIX ?= /usr/local
 INSTALL ?= install
 
-.PHONY: help report lib install test test-large test-old soak-widening bench clean
+.PHONY: help report lib install test test-large test-old soak soak-widening fuzz bench clean
 
 help:
 	@printf '%s\n' \
@@ -24,6 +24,8 @@ help:
 	    'make test-large  compare trees and lists of 16,777,216 tiles with the rules; takes 1 GB of memory' \
 	    'make test-old  build the version before float32 was retired, and compare its answers with those of converted trees' \
 	    'make soak-widening  every finite float32 pattern through the converter, against the C compiler; some minutes' \
+	    'make soak     compare 100,000,000 generated inputs with the rules; goes on where it was ended' \
+	    'make fuzz     change inputs of a corpus for TIME=60 seconds, guided by the branches that they take, and compare' \
 	    'make bench    measure the library beside plain Rust and two R-tree libraries; writes docs/BENCHMARKS.md' \
 	    'make clean    remove all that was made here' \
 	    'The Python package: pip install bindings/python, after make lib or without it.'
@@ -81,6 +83,12 @@ soak-widening: lib
 	@gcc -O2 -std=c11 -Wall -Wextra -Werror -pedantic -Iinclude -o build/soak-widening tests/soak/widening.c \
 	    build/libtussockbell.a
 	@time build/soak-widening
+
+soak:
+	@tests/differential/soak
+
+fuzz:
+	@tests/differential/fuzz
 
 bench:
 	@bench/run

@@ -8,11 +8,12 @@ TIME.
 
 import pathlib
 import sys
+from collections.abc import Iterator
 
 import tussockbell as tb
 
 
-def names_in(file):
+def names_in(file: pathlib.Path) -> Iterator[str]:
     """The names in a consolidated commits file or an ignore file: one name or URI of a fragment a line."""
     for number, line in enumerate(file.read_text().splitlines(), 1):
         name = line.rpartition("/")[2].removesuffix(".wrt")
@@ -21,7 +22,7 @@ def names_in(file):
         yield name
 
 
-def listing(array):
+def listing(array: pathlib.Path) -> bytes:
     """A record for each folder, each write file, and each name that the other files hold, each once."""
     records = [("folder", path.name) for path in sorted((array / "__fragments").iterdir()) if path.is_dir()]
     for path in sorted((array / "__commits").iterdir()):

@@ -10,6 +10,7 @@ import pathlib
 import random
 import struct
 from array import array
+from collections.abc import Iterator, Sequence
 
 import tussockbell as tb
 
@@ -19,16 +20,18 @@ DESCRIPTION = tb.Description(["int64", "float64"], fields=1, capacity=CELLS)
 BOX = struct.Struct("<qqdd")
 
 
-def numbers(*all_of_them):
+def numbers(*all_of_them: int) -> bytes:
     return struct.pack(f"<{len(all_of_them)}Q", *all_of_them)
 
 
-def offset_list(offsets):
+def offset_list(offsets: Sequence[int]) -> bytes:
     """The body of a list: how many entries there are, and the entries."""
     return numbers(len(offsets), *offsets)
 
 
-def footer(domain, tiles, last_cells, file_sizes, rtree, tile_offsets):
+def footer(
+    domain: bytes, tiles: int, last_cells: int, file_sizes: Sequence[int], rtree: int, tile_offsets: Sequence[int]
+) -> bytes:
     """The bytes of a footer, field after field. `domain` is a box; `file_sizes` are those of the data files, a field each, and
     `tile_offsets` where in the metadata file the lists stand that tell the tiles in them."""
     none = [0] * len(file_sizes)
@@ -39,7 +42,7 @@ def footer(domain, tiles, last_cells, file_sizes, rtree, tile_offsets):
     return head + sizes + places + numbers(len(head + sizes + places))
 
 
-def boxes(tiles, last_cells, chance):
+def boxes(tiles: int, last_cells: int, chance: random.Random) -> Iterator[tuple[int, int, float, float]]:
     """A box for each tile: the time of its first cell and of its last one, and two energies."""
     for tile in range(tiles):
         start, cells = tile * CELLS, last_cells if tile == tiles - 1 else CELLS
@@ -47,7 +50,7 @@ def boxes(tiles, last_cells, chance):
         yield start, start + cells - 1, energy, energy + chance.uniform(0, 10)
 
 
-def write(folder, tiles, seed):
+def write(folder: pathlib.Path, tiles: int, seed: int) -> None:
     """Writes one fragment."""
     chance = random.Random(seed)
     last_cells = chance.randrange(1, CELLS + 1)
@@ -64,14 +67,14 @@ def write(folder, tiles, seed):
     (folder / "data").write_bytes(array("d", range(cells)).tobytes())
 
 
-def opened(folder):
+def opened(folder: pathlib.Path) -> tb.Fragment:
     """A fragment that was written here: its files are mapped, and checked."""
     footer_path, tree, offsets = (folder / name for name in ("footer", "tree", "offsets"))
     file_size = sum(path.stat().st_size for path in (footer_path, tree, offsets))
     return tb.Fragment(DESCRIPTION, file_size, footer_path, tree, {0: offsets})
 
 
-def main():
+def main() -> None:
     parser = argparse.ArgumentParser(description="Writes fragments to try things on.")
     parser.add_argument("folder", type=pathlib.Path)
     parser.add_argument("--fragments", type=int, default=4)

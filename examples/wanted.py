@@ -13,7 +13,7 @@ touched = tb.open_tree(d, 1166, footer_bytes, tree_bytes).query([(12, 21)]).tile
 print("touched", touched)
 
 
-def body(*energies):
+def body(*energies: float) -> bytes:
     """Mins or maxes as a fragment has them: a count, the values, and the size of a var buffer that has no bytes."""
     return struct.pack(f"<Q{len(energies)}fQ", len(energies), *energies, 0)
 
@@ -23,7 +23,7 @@ energies = tb.tile_ranges("float32", footer.tiles, body(0.5, 2.5, 0.0), body(1.5
 nulls = tb.null_counts(d, 1166, footer_bytes, struct.pack("<4Q", 3, 0, 31, 5))
 
 
-def can_hold(tile, value):
+def can_hold(tile: int, value: float) -> bool:
     low, high = energies[tile]
     return nulls[tile] < footer.cells(tile) and low <= value <= high
 

@@ -22,7 +22,7 @@ RETIRED = [["float32"], ["float64", "float32"], ["int32", "float32", "float32"],
 MOST = 2**64 - 1
 HALF = 2**63
 # What the program reads.
-SPACE = 524_288
+SPACE = 655_360
 MOST_DIMENSIONS, MOST_FIELDS, MOST_CAPACITY, MOST_TILES, MOST_FANOUT = (
     LIMITS[what][1] for what in ("dimensions", "fields", "capacity", "tiles", "fanout")
 )
@@ -516,6 +516,34 @@ def tree_cases(cases):
                 ask(d, n, b, kinds, [near(k, low, high) for k in kinds])
 
 
+def blocks_cases(cases):
+    """A whole body in blocks of some sizes, with room for its inner boxes and a byte less; bytes changed, and cut short."""
+
+    def ask(d, foot, body, size, room):
+        try:
+            r = rules.open_parts(d, foot.file_size, foot.data(), len(body), room, body)
+            answer = [0, 0, 0, r["tiles"], r["fanout"], r["levels"]]
+        except Refused as r:
+            answer = [r.number, r.place, r.which, 0, 0, 0]
+        cases.add(11, d, [foot.file_size, size, room], foot.data(), body, text(answer))
+
+    one = Description(["int32"], 1, 32)
+    foot = pieces.Footer(one, [(0, 24)])
+    body = pieces.tree(["int32"], [[(0, 4)], [(10, 14)], [(20, 24)]], 2)
+    for size in (0, 9, MOST):
+        for room in (23, 24):
+            ask(one, foot, body, size, room)
+    for at in (8, 76):
+        bad = body[:at] + bytes([body[at] ^ 0x81]) + body[at + 1 :]
+        for size in (1, 13):
+            ask(one, foot, bad, size, 24)
+    for cut in (3, 79):
+        ask(one, foot, body[:cut], 5, 24)
+    ask(one, pieces.Footer(one, [(1, 24)]), body, 5, 24)
+    ask(one, pieces.Footer(one, [(0, 24)], last_cells=33), body, 5, 0)
+    ask(Description(["int32"], 1, 0), foot, body, 5, 0)
+
+
 def box_test_cases(cases):
     """One box and a window: a first miss in each dimension, of each kind, below, above and by NaN; refusals."""
 
@@ -596,6 +624,7 @@ def main():
     footer_cases(cases)
     list_cases(cases)
     tree_cases(cases)
+    blocks_cases(cases)
     box_test_cases(cases)
     fixture_cases(cases)
     size = sum(map(len, cases.asked))

@@ -94,18 +94,24 @@ def footer_of(data):
 
 
 def offsets_in(footer, box_bytes, fields):
-    """The R-tree's offset and the offsets of the fields' tile offsets, as the footer states them."""
+    """The R-tree's offset, and for each field those of its tile offsets, var offsets and var sizes, as the footer states them."""
     (size,) = struct.unpack_from("<Q", footer, 4)
     at = 32 + size + box_bytes + 24 * fields
     (tree,) = struct.unpack_from("<Q", footer, at)
-    return tree, struct.unpack_from(f"<{fields}Q", footer, at + 8)
+    return tree, [struct.unpack_from(f"<{fields}Q", footer, at + 8 + 8 * fields * k) for k in range(3)]
 
 
 def cut(data, box_bytes, fields):
     """The footer, the tree's body, and the body of each field's tile offsets."""
     footer = footer_of(data)
     tree, lists = offsets_in(footer, box_bytes, fields)
-    return footer, generic_tile(data, tree)[0], [generic_tile(data, at)[0] for at in lists]
+    return footer, generic_tile(data, tree)[0], [generic_tile(data, at)[0] for at in lists[0]]
+
+
+def var(data, box_bytes, fields, field):
+    """The bodies of a field's var offsets and var sizes."""
+    _, lists = offsets_in(footer_of(data), box_bytes, fields)
+    return [generic_tile(data, lists[k][field])[0] for k in (1, 2)]
 
 
 def main():

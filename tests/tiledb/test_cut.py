@@ -1,6 +1,7 @@
-"""The cutting of a metadata file, tested on files that are put together here from the fixtures' pieces."""
+"""The cutting of a metadata file, and the comparing of a fragment, tested on files that are put together here."""
 
 import pathlib
+import random
 import struct
 import sys
 import unittest
@@ -8,21 +9,22 @@ import unittest
 here = pathlib.Path(__file__).parent
 sys.path.insert(0, str(here.parent / "reference"))
 
+import compare
 import cut
 import pieces
 import rules
 
 
 def metadata_file(d, footer, tree, lists, compressed, largest):
-    """The tiles one after the other, and the footer with their offsets."""
+    """The tiles one after the other, and the footer with their offsets. `lists` has those of each field one kind of list after the other."""
     data, places = b"", []
     for body in [tree] + lists:
         places.append(len(data))
         data += cut.write_generic_tile(body, compressed, largest)
-    footer.rtree, footer.offsets[0] = places[0], places[1:]
+    footer.rtree = places[0]
     footer.file_size = len(data) + footer.total()
-    for a in range(1, 8):
-        footer.offsets[a] = [0] * d.fields
+    for a in range(8):
+        footer.offsets[a] = places[1 + a * d.fields :][: d.fields] or [0] * d.fields
     footer.fragment = footer.conditions = 0
     return data + footer.data()
 
@@ -62,6 +64,41 @@ class Cutting(unittest.TestCase):
         tile[12] += 1  # tile size
         with self.assertRaises(cut.NotReadable):
             cut.generic_tile(bytes(tile), 0)
+
+
+def fragment(kinds, capacity, cells, chance):
+    """A fragment of random cells, sorted, with the lists of both attributes."""
+    all_cells = [(tuple(compare.number(k, chance, 1000) for k in kinds), b"x" * chance.randrange(9)) for _ in range(cells)]
+    known = compare.Fragment(kinds, capacity, b"", sorted(all_cells), 7 * cells, 3 * cells)
+    tiles = compare.tiles_of(known)
+    d = rules.Description(kinds, len(kinds) + compare.OTHER_FIELDS, capacity)
+    boxes = [compare.box(part) for part in tiles]
+    starts = [capacity * i for i in range(len(tiles))]
+    lists = [pieces.entries([7 * x for x in starts])] * d.fields + [pieces.entries([3 * x for x in starts])] * d.fields
+    lists += [pieces.entries([sum(len(text) for _, text in part) for part in tiles])] * d.fields
+    foot = pieces.Footer(d, pieces.around(boxes), tiles=len(tiles), last_cells=len(tiles[-1]))
+    return known._replace(data=metadata_file(d, foot, pieces.tree(kinds, boxes, 3), lists, True, 65536))
+
+
+class Comparing(unittest.TestCase):
+    """What is compared with TileDB, of fragments that are put together here: right ones agree, and each wrong one is told."""
+
+    def test_right_ones_agree(self):
+        for kinds, capacity, cells in compare.CASES:
+            chance = random.Random(len(kinds) + cells)
+            self.assertEqual(compare.compare(fragment(kinds, capacity, cells, chance), chance, 30), 30)
+
+    def test_wrong_ones_are_told(self):
+        for kinds, capacity, cells in compare.CASES:
+            right = fragment(kinds, capacity, cells, random.Random(5))
+            far = tuple(compare.number(kind, random.Random(0), 0) + 1000 for kind in kinds)
+            wrong = [
+                right._replace(cells=[(far, right.cells[0][1])] + right.cells[1:]), right._replace(cells=right.cells[:-capacity]),
+                right._replace(cells=[(right.cells[0][0], b"x" * 99)] + right.cells[1:]), right._replace(capacity=capacity + 1),
+            ]
+            for each in wrong:
+                with self.assertRaises(compare.Differs):
+                    compare.compare(each, random.Random(6), 300)
 
 
 if __name__ == "__main__":

@@ -93,7 +93,14 @@ class _Named(Protocol):
     def name(self) -> str: ...
 
 
-Bytes = Union[bytes, bytearray, memoryview, mmap.mmap]
+class _Array(Protocol):
+    """What lends its items as an array of numpy does."""
+
+    @property
+    def __array_interface__(self) -> dict[str, Any]: ...
+
+
+Bytes = Union[bytes, bytearray, memoryview, mmap.mmap, "array[Any]", "ctypes.Array[Any]", _Array]
 Kind = Union[str, SupportsIndex, type, _Named, None]
 End = Union[SupportsIndex, SupportsFloat, bytes, bytearray]
 Range = Tuple[End, End]
@@ -184,11 +191,12 @@ def _load() -> Union[ctypes.CDLL, OSError]:
 
 
 _library = _load()
-_u64, _pointer = ctypes.c_uint64, ctypes.c_void_p
-_bytes = [_pointer, ctypes.c_size_t]
-_description = [*_bytes, _u64, _u64]
-_footer = [*_description, _u64, *_bytes]
-_list = [_u64, _u64, *_bytes]
+_u64: type[ctypes.c_uint64] = ctypes.c_uint64
+_pointer: type[ctypes.c_void_p] = ctypes.c_void_p
+_bytes: list[Any] = [_pointer, ctypes.c_size_t]
+_description: list[Any] = [*_bytes, _u64, _u64]
+_footer: list[Any] = [*_description, _u64, *_bytes]
+_list: list[Any] = [_u64, _u64, *_bytes]
 
 
 def _function(name: str, arguments: list[Any], result: Any = None) -> Any:
@@ -256,7 +264,9 @@ class Refused(Exception):
         return f"refused {self.number} at {self.place}{' of the second byte string' if self.which else ''}: {self.text}"
 
     def __eq__(self, other: object) -> bool:
-        return self.args == other.args if isinstance(other, Refused) else NotImplemented
+        if not isinstance(other, Refused):
+            return NotImplemented
+        return bool(self.args == other.args)
 
     def __hash__(self) -> int:
         return hash(self.args)
@@ -339,11 +349,12 @@ def _kept(data: Bytes) -> Iterator[memoryview]:
 _LARGEST = 2**64 - 1
 _MOST_DIMENSIONS = 4
 _NO_KIND = 255
-_NAMES = {name: number for name, (number, _) in _KINDS.items()}
+_NAMES: dict[str, int] = {name: number for name, (number, _) in _KINDS.items()}
 _FORMATS = dict(_KINDS.values())
-_FLOAT32, _UINT64 = _NAMES["float32"], _NAMES["uint64"]
+_FLOAT32: int = _NAMES["float32"]
+_UINT64: int = _NAMES["uint64"]
 _INTEGERS = [_NAMES["int32"], _NAMES["int64"], _UINT64]
-_WIDTHS = {kind: struct.calcsize(one) for kind, one in _FORMATS.items()}
+_WIDTHS: dict[int, int] = {kind: struct.calcsize(one) for kind, one in _FORMATS.items()}
 # Both ends at once, where nothing has to be looked at first.
 _PAIRS = {kind: struct.Struct(one + one[1]).pack for kind, one in _FORMATS.items() if kind != _FLOAT32}
 # A result buffer is as many of these as it has places, and a run of records as many as it has numbers. A place is a uint32_t; a
@@ -626,7 +637,7 @@ def _look_at(kinds: bytes, view: memoryview, what: str, one: bool) -> None:
     if items is None:
         has = f"format {view.format!r}, {view.itemsize} bytes each"
         raise TypeError(f"{what}: items of {has}, where the description's kinds take {_fitting(kinds)}")
-    if not _has_shape(items, dimensions, view.shape, one):
+    if not _has_shape(items, dimensions, view.shape or (), one):
         raise TypeError(f"{what}: shape {view.shape}, where {items} take {_shapes(items, dimensions, one)}")
     if items == _RECORDS and _has_bit_fields(type(view.obj)):
         raise TypeError(f"{what}: items of format {view.format!r} that have bit fields")
@@ -782,7 +793,8 @@ class Footer(_FooterNumbers):
         give, an array of uint64 items."""
         given = self.tiles, self.last_tile_cells, self._capacity
         try:
-            return _c_cells_at(*given, _limited(cast(SupportsIndex, tile)))
+            cells: int = _c_cells_at(*given, _limited(cast(SupportsIndex, tile)))
+            return cells
         except TypeError:
             pass
         return _plan.cells(*given, cast(Iterable[SupportsIndex], tile))
@@ -903,7 +915,7 @@ def _ask_batch(
     if isinstance(windows, bytes):
         return _ask_all(description, tiles, tree, (windows, len(windows)), room)
     if isinstance(windows, (list, tuple)) or not _has_buffer(windows):
-        return _ask_listed(description, tiles, tree, list(windows), room)
+        return _ask_listed(description, tiles, tree, list(cast("Iterable[Any]", windows)), room)
     with _lend_boxes(description, windows, "windows") as view:
         return _ask_all(description, tiles, tree, _lent(view), room)
 
@@ -1050,7 +1062,8 @@ class TreeParts:
         self, description: Description, file_size: SupportsIndex, footer: Bytes, stated: SupportsIndex,
         work: Optional[Union[bytearray, memoryview, mmap.mmap]] = None,
     ) -> None:
-        self._state, self._head, self._answer, self._under_way = _PartsState(), bytearray(), None, False
+        self._state, self._head, self._under_way = _PartsState(), bytearray(), False
+        self._answer: Any = None
         self._work: Optional[memoryview] = None
         with _lend(footer) as first:
             given = (*description._given, _file_size(file_size), *_lent(first))

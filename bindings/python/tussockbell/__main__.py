@@ -44,7 +44,7 @@ from __future__ import annotations
 import argparse
 import os
 import sys
-from typing import Any, NoReturn, Optional, TextIO, Union
+from typing import Any, NoReturn, Optional, TextIO, Union, cast
 
 import tussockbell as tb
 from tussockbell import _committed, _converted, _dense, _picture, _replay
@@ -140,8 +140,9 @@ def _arguments(words: list[str]) -> argparse.Namespace:
     )
     query.add_argument("--data-size", required=True, type=int, metavar="S", help="bytes of the data file")
     gridded = _dense.options(_window)
+    drawn = cast(_Parser, gridded) if _dense.is_grid(words) else windowed
     plot = commands.add_parser(
-        "plot", parents=[gridded if _dense.is_grid(words) else windowed], allow_abbrev=False,
+        "plot", parents=[drawn], allow_abbrev=False,
         help="draw two dimensions of the tree, or a dense grid", epilog=_dense.PICTURE,
     )
     plot.add_argument("--out", required=True, metavar="FILE.svg", help="where the picture goes")

@@ -9,6 +9,9 @@ from typing import BinaryIO, Union
 
 import tussockbell as tb
 
+# What `read` gives.
+Read = Union[bytearray, mmap.mmap]
+
 
 def _most_bytes() -> int:
     """The bytes of the largest body that the limits allow."""
@@ -24,7 +27,7 @@ def _read_at_most(file: BinaryIO, most: int) -> bytearray:
     return data
 
 
-def read(path: Union[str, os.PathLike[str]]) -> tb.Bytes:
+def read(path: Union[str, os.PathLike[str]]) -> Read:
     """A file's bytes: mapped, or read with a limit where they can't be, as those of a pipe can't."""
     with open(path, "rb") as file:
         about = os.fstat(file.fileno())

@@ -7,7 +7,7 @@ import operator
 import os
 from collections.abc import Callable, Iterable, Mapping
 from types import MappingProxyType
-from typing import Any, Optional, SupportsIndex, Tuple, Union
+from typing import Any, Optional, SupportsIndex, Tuple, Union, cast
 
 import tussockbell as tb
 from tussockbell import Bytes, Description, Footer, Hit, Offsets, Range, Refused, Tree, Window, Windows, _files, _plan
@@ -132,7 +132,7 @@ class Fragment:
         # Tree and offsets are held here, so that no other thread's `close` takes their bytes away.
         tree, offsets, number = self.tree, self.offsets[_named(field)], _plan.taken_gap(gap)
         if isinstance(windows, (list, tuple)) or not tb._has_buffer(windows):
-            plan = _planned_of_list(tree, offsets, list(windows), number)
+            plan = _planned_of_list(tree, offsets, list(cast(Iterable[Any], windows)), number)
         else:
             with tb._lend_boxes(self.description, windows, "windows") as view:
                 plan = _planned(tree, offsets, tb._lent(view), number)

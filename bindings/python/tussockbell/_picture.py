@@ -12,6 +12,7 @@ from typing import Any, NamedTuple
 from xml.sax.saxutils import escape
 
 import tussockbell as tb
+from tussockbell import _files
 
 # The picture's size and the margins of what is drawn, in its own units.
 _WIDTH, _HEIGHT = 760, 560
@@ -77,7 +78,7 @@ def _levels(tiles: int, fanout: int) -> list[int]:
 
 
 def _boxes(
-    description: tb.Description, tree: tb.Bytes, counts: Sequence[int], axes: tuple[int, int]
+    description: tb.Description, tree: _files.Read, counts: Sequence[int], axes: tuple[int, int]
 ) -> Iterator[list[_Box]]:
     """The two sides of every box, level by level, as an accepted tree has them."""
     ends = [tb._FORMATS[kind][1] for kind in description._given[0]]
@@ -160,7 +161,7 @@ def _axis_lines(view: _View, names: tuple[str, str]) -> Iterator[str]:
 
 
 def draw(
-    description: tb.Description, opened: tb.Tree, tree: tb.Bytes, window: Sequence[Any], hit: tb.Hit,
+    description: tb.Description, opened: tb.Tree, tree: _files.Read, window: Sequence[Any], hit: tb.Hit,
     axes: tuple[int, int],
 ) -> str:
     """The picture of an accepted tree and of what a window, which was not refused, finds in it."""

@@ -61,7 +61,9 @@ class Ranges(Sequence[Tuple[int, int]]):
         return zip(numbers, numbers)
 
     def __eq__(self, other: object) -> bool:
-        return self.numbers == other.numbers if isinstance(other, Ranges) else NotImplemented
+        if not isinstance(other, Ranges):
+            return NotImplemented
+        return self.numbers == other.numbers
 
     def __hash__(self) -> int:
         return hash(self.numbers.tobytes())

@@ -86,7 +86,8 @@ class TileValues(_Tiles[Number]):
         self._number = struct.Struct(_FORMATS[kind]).unpack_from
 
     def _at(self, tile: int) -> Number:
-        return self._number(_EIGHT.pack(_c_value_at(*self._given, tile)))[0]
+        value: Number = self._number(_EIGHT.pack(_c_value_at(*self._given, tile)))[0]
+        return value
 
 
 class VarValues(_Tiles[memoryview]):
@@ -159,7 +160,8 @@ class _Read(_Tiles[Number]):
         self._tiles, self._sums, self._number = len(sums), sums, struct.Struct(one).unpack
 
     def _at(self, tile: int) -> Number:
-        return self._number(_EIGHT.pack(self._sums._at(tile)))[0]
+        value: Number = self._number(_EIGHT.pack(self._sums._at(tile)))[0]
+        return value
 
 
 class TileSums(_Numbers):

@@ -13,6 +13,7 @@ macro_rules! rules_modules {
 }
 
 rules_modules! {
+    blocks "../../../tests/differential/src/blocks.rs"
     cases "../../../tests/differential/src/cases.rs"
     right "../../../tests/differential/src/right.rs"
     rules "../../../tests/differential/src/rules.rs"
@@ -23,7 +24,7 @@ use right::right;
 use std::collections::BTreeSet;
 use tussockbell::{box_test, open_tree, query, query_batch, query_batch_bytes, read_footer, report};
 use tussockbell::{tile_offsets, tile_sizes, tree_length, var_tile_offsets, write_tree};
-use tussockbell::{Description, Footer, Kind, Range, Record, Refused, Tree, Which};
+use tussockbell::{Description, Footer, Kind, Opened, Range, Record, Refused, Tree, TreeParts, Which};
 
 const SEED: u64 = 20_261_116;
 const CASES: u64 = 300_000;
@@ -293,4 +294,32 @@ fn every_changed_byte_and_every_cut_is_answered_as_the_rules_say() {
             *cases::parts(&mut case)[part] = whole;
         }
     }
+}
+
+#[test]
+fn a_tree_in_parts_is_answered_as_the_rules_say() {
+    let (mut refused, mut accepted) = (BTreeSet::new(), 0);
+    for made in 0..CASES {
+        let Some(p) = blocks::make(&mut Chance::new(SEED, made)) else { continue };
+        let Ok(kinds) = kinds(&p.d.kinds) else { continue };
+        let mut work = p.work.clone();
+        let mut parts = TreeParts::new(&described(&p.d, &kinds), p.file_size, &p.footer, p.stated, &mut work);
+        let mut from = 0;
+        for to in &p.cuts {
+            parts.write(&p.got[from..*to]);
+            from = *to;
+        }
+        let right = blocks::right(&p);
+        let expected = if right[0] == 0 {
+            accepted += 1;
+            Ok(Opened { tiles: right[3], fanout: right[4], levels: right[5] })
+        } else {
+            refused.insert(right[0]);
+            let which = if right[2] == 1 { Which::Second } else { Which::First };
+            Err(Refused { number: right[0], place: right[1], which })
+        };
+        assert_eq!(parts.finish(), expected, "input {made}: stated {}, cut at {:?}", p.stated, p.cuts);
+    }
+    assert!(refused.into_iter().eq((1..=16).chain([21, 23, 28])));
+    assert!(accepted > 1_000, "{accepted} accepted");
 }

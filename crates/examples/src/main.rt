@@ -15,10 +15,11 @@ use lists::Extent;
 use lists::TileOffsets;
 use query::Answer;
 use ranges::Range;
+use rtree::Opened;
 ghost use Prim.Native.Nat.{_≤_, _<_};
 
 fn main() {
-    let mut space = [0u8; 524_288];
+    let mut space = [0u8; 655_360];
     let n = io::read_full(STDIN_FILENO, &mut space);
     cases(&space[0..n]);
 }
@@ -77,6 +78,7 @@ fn answer(case: &[u8], a: &[u8], b: &[u8]) {
         8 => var_offsets_case(case, a),
         9 => batch_case(case, a, b),
         10 => box_test_case(case, a, b),
+        11 => blocks_case(case, a, b),
         _ => (),
     }
     io::write_all(STDOUT_FILENO, b"\n");
@@ -220,7 +222,27 @@ fn sizes_case(case: &[u8], bytes: &[u8]) {
 
 fn open_case(case: &[u8], bytes: &[u8], body: &[u8]) {
     let d = description(case);
-    let r = opening::open(d, order::u64_at(case, 72), bytes, body);
+    opened_numbers(opening::open(d, order::u64_at(case, 72), bytes, body));
+}
+
+// The same body in blocks of a given size, with a work buffer of 64 bytes of which as many as the case says are lent.
+fn blocks_case(case: &[u8], bytes: &[u8], body: &[u8]) {
+    let mut space = [7u8; 64];
+    let work: &mut [u8] = &mut space;
+    let room = order::u64_at(case, 88);
+    if room <= work.len() as u64 {
+        let m = room as usize;
+        lend_work(case, bytes, body, &mut work[0..m]);
+    }
+}
+
+fn lend_work(case: &[u8], bytes: &[u8], body: &[u8], work: &mut [u8]) {
+    let d = description(case);
+    let size = order::u64_at(case, 80) as usize;
+    opened_numbers(parts::open_in_blocks(d, order::u64_at(case, 72), bytes, body, size, work));
+}
+
+fn opened_numbers(r: Opened) {
     number(r.number);
     number(r.place);
     number(r.which);

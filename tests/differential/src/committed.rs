@@ -3,6 +3,7 @@
 //! listings that differ only in folders that don't count.
 
 use crate::cases::Chance;
+use crate::fuzz::Change;
 use crate::guard::Space;
 use crate::listing::{committed, committed_by, lines, name_at};
 use crate::rules::{refusal, Answer};
@@ -180,6 +181,13 @@ fn slips(seed: u64) {
         assert!(caught, "the slip was not caught: {name}");
     }
     println!("differential: {} slips of a listing's rules are caught", all.len());
+}
+
+/// A listing whose bytes were changed: do the library and the rules agree?
+pub fn changed(c: &mut Chance, change: Change) -> bool {
+    let mut asked = make(c);
+    change(&mut [&mut asked.listing]);
+    ask(&asked, None) == right(&asked)
 }
 
 pub fn compare(inputs: u64, seed: u64) {

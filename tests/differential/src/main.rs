@@ -11,19 +11,22 @@
 //!     differential convert [INPUTS] [SEED]
 //!     differential dense [INPUTS] [SEED]
 //!     differential plan [INPUTS] [SEED]
+//!     differential fuzz SECONDS SEED CORPUS
 //!
 //! The second compares whole trees and lists of so many tiles, or of as many as there may be. The third compares bodies that arrive in parts, the
 //! fourth mins, maxes, sums and null counts, the fifth listings, the
 //! sixth logs that are replayed, the seventh what trees and footers of float32 dimensions are converted to, the eighth dense grids and dense
-//! footers, the ninth read plans.
+//! footers, the ninth read plans. The last changes inputs from a corpus, and is linked with the shared library.
 //!
 //! Every number of every answer and every place of every buffer is compared, the ones that must stay as they were too. Some of the inputs are lent
 //! from pages with unreadable pages on both sides.
 
+mod blocks;
 mod cases;
 mod committed;
 mod converter;
 mod dense;
+mod fuzz;
 mod grid;
 mod guard;
 mod library;
@@ -31,6 +34,7 @@ mod listing;
 mod many;
 mod parts;
 mod plan;
+mod reached;
 mod replay;
 mod right;
 mod rules;
@@ -137,6 +141,10 @@ impl Tally {
 }
 
 fn main() {
+    if let [_, fuzz, seconds, seed, corpus] = &std::env::args().collect::<Vec<_>>()[..] {
+        assert_eq!(fuzz, "fuzz");
+        return fuzz::run(seconds.parse().expect("a number"), seed.parse().expect("a number"), corpus);
+    }
     let compare: [(&str, fn(u64, u64)); 7] = [
         ("parts", parts::compare), ("values", values::compare), ("committed", committed::compare), ("replay", replay::compare),
         ("convert", converter::compare),

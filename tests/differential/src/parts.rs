@@ -1,9 +1,10 @@
 //! Bodies that arrive in parts: the library, through its C functions, against the rules, on generated bodies that are cut at random, with stated
 //! lengths and work buffers around the right ones. And states and work buffers that no call left: nothing may be read or written but what is lent.
 
-use crate::cases::{self, Case, Chance};
+use crate::blocks::{make, right, Parts};
+use crate::cases::Chance;
 use crate::guard::Space;
-use crate::rules::{self, refusal, Description};
+use crate::rules::refusal;
 use std::collections::BTreeMap;
 
 const STATE: usize = 40;
@@ -19,61 +20,8 @@ extern "C" {
     fn tussockbell_parts_finish(state: *const u64, w: *const u8, wl: usize, answer: *mut u64);
 }
 
-/// What came, in what blocks, and what is right of it.
-struct Parts {
-    d: Description,
-    file_size: u64,
-    footer: Vec<u8>,
-    stated: u64,
-    work: Vec<u8>,
-    got: Vec<u8>,
-    cuts: Vec<usize>,
-}
-
-/// The places where a run of bytes is cut, the last one its end.
-fn cuts(c: &mut Chance, length: usize) -> Vec<usize> {
-    let (mut all, mut at) = (vec![], 0);
-    let most = c.of(&[1, 2, 9, 40, 200, 100_000]);
-    while at < length {
-        let next = c.of(&[0, 1, 7, 8, 9, 16, most]);
-        at = length.min(at + if c.one_in(2) { next } else { c.below(most as u64 + 1) as usize });
-        all.push(at);
-    }
-    all.push(length);
-    all
-}
-
-/// The bytes that inner boxes take, as far as the first four bytes say it.
-fn needed(d: &Description, n: u64, body: &[u8]) -> usize {
-    let f = if body.len() < 4 { 2 } else { rules::number(body, 0, 4).clamp(2, 1_024) };
-    let (mut count, mut boxes) = (n, 0);
-    while count > 1 {
-        count = count.div_ceil(f);
-        boxes += count;
-    }
-    boxes as usize * d.box_bytes()
-}
-
-fn make(c: &mut Chance) -> Option<Parts> {
-    let Case::Open { d, file_size, footer, tree } = cases::make(c) else { return None };
-    let n = rules::footer(&d, file_size, &footer).map_or(3, |f| f.tiles).min(2_000);
-    let length = tree.len() as i64;
-    let stated = if c.one_in(4) { (length + c.of(&[-9, -8, -1, 1, 8, 1_000, -length, 3 - length, 8 - length])).max(0) } else { length } as u64;
-    let mut got = tree;
-    match c.below(6) {
-        0 => got.truncate(c.below(length as u64 + 1) as usize),
-        1 => got.truncate(c.below(40) as usize),
-        2 => got.extend((0..1 + c.below(30)).map(|i| i as u8)),
-        _ => (),
-    }
-    let room = needed(&d, n, &got) as i64 + if c.one_in(3) { c.of(&[-1, 1, 7, -8, 64, -100_000]) } else { 0 };
-    let filler = c.next() as u8;
-    let cuts = cuts(c, got.len());
-    Some(Parts { d, file_size, footer, stated, work: vec![filler; room.clamp(0, 200_000) as usize], got, cuts })
-}
-
 /// The library's answer, with every block and the work buffer in a place of its own, between guard pages where there is a space for them.
-fn ask(p: &Parts, space: &mut Option<&mut Space>) -> Vec<u64> {
+pub fn ask(p: &Parts, space: &mut Option<&mut Space>) -> Vec<u64> {
     let (mut state, mut answer) = ([u64::MAX; STATE], vec![u64::MAX; 6]);
     let mut own = p.work.clone();
     let work = match space {
@@ -103,13 +51,6 @@ fn ask(p: &Parts, space: &mut Option<&mut Space>) -> Vec<u64> {
     }
     unsafe { tussockbell_parts_finish(state.as_ptr(), work, p.work.len(), answer.as_mut_ptr()) };
     answer
-}
-
-fn right(p: &Parts) -> Vec<u64> {
-    match rules::parts(&p.d, p.file_size, &p.footer, p.stated, p.work.len(), &p.got) {
-        Ok((n, f, l)) => vec![0, 0, 0, n, f, l],
-        Err(r) => vec![r.number, r.place, r.which, 0, 0, 0],
-    }
 }
 
 fn same(p: &Parts, space: &mut Option<&mut Space>, refusals: &mut BTreeMap<u64, u64>, made: u64) {
@@ -169,7 +110,7 @@ pub fn compare(inputs: u64, seed: u64) {
         compared += 1;
     }
     if inputs >= 100_000 {
-        for number in (0..=refusal::OUTSIDE_DOMAIN).chain([refusal::WORK, refusal::RETIRED]) {
+        for number in (0..=refusal::OUTSIDE_DOMAIN).chain([refusal::WORK, refusal::INFINITE, refusal::RETIRED]) {
             assert!(refusals.contains_key(&number), "no body in parts was refused with {number}");
         }
     }

@@ -2,6 +2,7 @@
 //! in every way, room from none to more than enough. Every byte of the output buffer is compared, those that must stay too.
 
 use crate::cases::Chance;
+use crate::fuzz::Change;
 use crate::guard::Space;
 use crate::library::lend;
 use crate::rules::{self, limits, refusal, Answer, Description, FLOAT32, FLOAT64, INT32, INT64, UINT64};
@@ -283,6 +284,13 @@ fn same(case: &Case, space: Option<&mut Space>, made: u64) {
         eprintln!("the rules: {:?} {}\nthe library: {:?} {}", right.0, shown(&right.1), said.0, shown(&said.1));
         std::process::exit(1);
     }
+}
+
+/// A log and a tree whose bytes were changed: do the library and the rules agree?
+pub fn changed(c: &mut Chance, change: Change) -> bool {
+    let mut case = make(c);
+    change(&mut [&mut case.tree, &mut case.log]);
+    ask(&case, None) == right(&case)
 }
 
 /// Each slip is told from what is right.

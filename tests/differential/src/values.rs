@@ -2,7 +2,9 @@
 //! or several at each check's edge. Every function is asked about every body, those that check nothing too.
 
 use crate::cases::{self, Chance};
+use crate::fuzz::Change;
 use crate::guard::Space;
+use crate::library::lend;
 use crate::rules::{self, limits, number, refusal, refuse, Answer, Description, End, Refused};
 use std::collections::BTreeMap;
 
@@ -231,18 +233,6 @@ fn right(case: &Case, slip: Slip) -> Vec<u64> {
 
 // ---- the library
 
-/// Bytes to lend: where they are, or a copy between guard pages.
-fn lend(data: &[u8], space: &mut Option<&mut Space>) -> *const u8 {
-    match space {
-        Some(space) => {
-            let place = space.lend(data.len());
-            unsafe { std::ptr::copy_nonoverlapping(data.as_ptr(), place, data.len()) };
-            place
-        }
-        None => data.as_ptr(),
-    }
-}
-
 fn ask(case: &Case, mut space: Option<&mut Space>) -> Vec<u64> {
     if let Some(space) = &mut space {
         space.again();
@@ -452,6 +442,13 @@ fn bodies(case: &mut Case) -> Vec<&mut Vec<u8>> {
         Case::Sums { body, .. } => vec![body],
         Case::Counts { footer, body, .. } => vec![footer, body],
     }
+}
+
+/// A case whose bytes were changed: do the library and the rules agree?
+pub fn changed(c: &mut Chance, change: Change) -> bool {
+    let mut case = make(c);
+    change(&mut bodies(&mut case));
+    ask(&case, None) == right(&case, Slip::None)
 }
 
 // ---- the comparison
