@@ -1,9 +1,10 @@
 // The box test as an exported function on numbers and slices. include/tussockbell.h declares it for C.
 ghost use mathlib.Core.Path.{_≡_};
+ghost use lib.ListN.{getD};
 ghost use Rattle.query.specs.BoxTest.{boxTestAnswer, ReadUp};
 ghost use Rattle.c_arguments.specs.Described.{describe};
 ghost use Rattle.c_arguments.specs.Windows.{windowOfBytes};
-ghost use Rattle.c_box_test.specs.Places.{boxTestPlaces};
+ghost use Rattle.c_box_test.specs.Places.{boxTestPlaces, testedAt};
 
 // Does a box meet a window, and how many of its dimensions are read for that?
 #[no_mangle]
@@ -20,15 +21,10 @@ pub extern "C" fn tussockbell_box_test(
         (describe (now (kinds .entry)) fields capacity) (now (stored .entry))
         (windowOfBytes (describe (now (kinds .entry)) fields capacity)
         (now («window_kinds» .entry)) (now («window_ends» .entry)))) ⌝ }
-    ensures read { λ _. ⌜ (boxTestAnswer (describe (now (kinds .entry)) fields capacity) (now (stored .entry))
-        (windowOfBytes (describe (now (kinds .entry)) fields capacity)
-        (now («window_kinds» .entry)) (now («window_ends» .entry))) .number ≡ 0
+    ensures read { λ _. ⌜ (getD (now (answer .exit)) 0 0 ≡ 0
         → ReadUp (describe (now (kinds .entry)) fields capacity) (now (stored .entry))
         (windowOfBytes (describe (now (kinds .entry)) fields capacity)
-        (now («window_kinds» .entry)) (now («window_ends» .entry)))
-        (boxTestAnswer (describe (now (kinds .entry)) fields capacity) (now (stored .entry))
-        (windowOfBytes (describe (now (kinds .entry)) fields capacity)
-        (now («window_kinds» .entry)) (now («window_ends» .entry))) .tested)) ⌝ }
+        (now («window_kinds» .entry)) (now («window_ends» .entry))) (testedAt (now (answer .exit)))) ⌝ }
 {
     let d = c_arguments::describe(kinds, fields, capacity);
     let w = c_arguments::window_of(d, window_kinds, window_ends);

@@ -14,7 +14,7 @@ ghost use Rattle.query.specs.Query.{queryAnswer, queryBuffer, Promises};
 ghost use Rattle.batch.specs.Batch.{batchBuffer};
 ghost use Rattle.c_arguments.specs.Described.{describe};
 ghost use Rattle.c_arguments.specs.Windows.{windowOfBytes};
-ghost use Rattle.c_query.specs.Places.{answerPlaces};
+ghost use Rattle.c_query.specs.Places.{answerPlaces, answerIn};
 ghost use Rattle.c_query.specs.Lent.{windowBytes, lentBatch, windowAt, windowsOf, recordPlaces, LentAnswered};
 
 // Which tiles does a window touch?
@@ -43,10 +43,7 @@ pub extern "C" fn tussockbell_query(
         (describe (now (kinds .entry)) fields capacity) tiles (now (tree .entry))
         (windowOfBytes (describe (now (kinds .entry)) fields capacity)
         (now («window_kinds» .entry)) (now («window_ends» .entry)))
-        (queryAnswer (describe (now (kinds .entry)) fields capacity) tiles (now (tree .entry))
-        (windowOfBytes (describe (now (kinds .entry)) fields capacity)
-        (now («window_kinds» .entry)) (now («window_ends» .entry))))
-        (now (out .entry)) (now (out .exit)) ⌝ }
+        (answerIn (now (answer .exit))) (now (out .entry)) (now (out .exit)) ⌝ }
 {
     let d = c_arguments::describe(kinds, fields, capacity);
     let w = c_arguments::window_of(d, window_kinds, window_ends);

@@ -5,6 +5,7 @@ pub mod Body
 pub mod Opened
 pub mod Again
 pub mod Tree
+pub mod Room
 pub mod SameLeaves
 pub mod Fewest
 pub mod Rules

@@ -47,6 +47,18 @@ module _ (d : Description) (n f : ℕ) (leaves : List ℕ) where
       let fanout = within leastFanout mostFanout f (check-clear _ _ _ (omega arith) (c .0)) in
       (a .0, record { some = tiles .0; most = tiles .1; least = fanout .0; widest = fanout .1 })
 
+  -- where no check before that of the room refuses
+  pub cleared : sizesRefusal d n f .number ≡ 0 → check (not (eqb (length leaves) (n * boxBytes d))) refusals.bytes (length leaves) .number ≡ 0
+      → each (leafRefusal d n f leaves) 0 n .number ≡ 0 → Cleared d n f leaves
+  cleared a b c =
+      let s = sizes-clear a in
+      record {
+        described = s .0;
+        sizes = s .1;
+        whole = eqb-true _ _ (not-false _ (check-clear _ _ _ (omega arith) b));
+        sound = λ k l. each-clear (leafRefusal d n f leaves) 0 n c k (omega arith) (omega arith);
+      }
+
   -- what is not refused has passed them
   pub write-cleared : (room : ℕ) → writeRefusal d n f leaves room .number ≡ 0 → Cleared d n f leaves
   unfolding writeRefusalBy
@@ -54,13 +66,7 @@ module _ (d : Description) (n f : ℕ) (leaves : List ℕ) where
       let a = clear _ _ h in
       let b = clear _ _ (a .1) in
       let c = clear _ _ (b .1) in
-      let s = sizes-clear (a .0) in
-      record {
-        described = s .0;
-        sizes = s .1;
-        whole = eqb-true _ _ (not-false _ (check-clear _ _ _ (omega arith) (b .0)));
-        sound = λ k l. each-clear (leafRefusal d n f leaves) 0 n (c .0) k (omega arith) (omega arith);
-      }
+      cleared (a .0) (b .0) (c .0)
 
   module _ (c : Cleared d n f leaves) where
     sizes-none : sizesRefusal d n f ≡ none

@@ -1,6 +1,6 @@
 -- `c_query::tussockbell_query` meets its contract: the library's own answer, place by place, and its buffer. Assumes nothing.
 use Prim.Native.Nat.{ℕ}
-use mathlib.Core.Path.{_≡_, refl, ap}
+use mathlib.Core.Path.{_≡_, ap}
 use mathlib.Core.List.{List}
 use borrow.Author.Needs.{needs}
 use Rattle.description.specs.declared.Description.{Description}
@@ -9,7 +9,7 @@ use Rattle.query.specs.declared.Answer.{Answer}
 use Rattle.query.specs.Query.{queryAnswer, queryBuffer, Promises}
 use Rattle.query.proofs.Promised.{keeps}
 use Rattle.c_arguments.specs.Windows.{windowOfBytes}
-use Rattle.c_query.specs.Places.{answerPlaces}
+use Rattle.c_query.specs.Places.{answerPlaces, answerIn}
 use Rattle.c_query.proofs.tussockbell_query.Statement.{statement}
 use Rattle.c_query.proofs.tussockbell_query.Tie as tie
 
@@ -18,9 +18,11 @@ asked : {d : Description} {n : ℕ} {body before after : List ℕ} {w : Window} 
     (f : Description → Window) → d ≡ described → w ≡ f d → r ≡ queryAnswer d n body w → after ≡ queryBuffer d n body w before
     → (answerPlaces r ≡ answerPlaces (queryAnswer described n body (f described)))
     × ((after ≡ queryBuffer described n body (f described) before)
-    × Promises described n body (f described) (queryAnswer described n body (f described)) before after)
+    × Promises described n body (f described) (answerIn (answerPlaces r)) before after)
 asked {d} {n} {body} {before} described f p q e b =
-    let left = rw (q, p) at b in (ap answerPlaces (rw (q, p) at e), (left, keeps described n body (f described) refl before left))
+    let left = rw (q, p) at b in
+    let told = rw (q, p) at e in
+    (ap answerPlaces told, (left, keeps described n body (f described) told before left))
 
 returns : tie.Need-returns
 returns c =
