@@ -1,5 +1,5 @@
 """Makes the wheel that `pip install` wants, with the standard library alone: the package's files and the shared library, which is
-made first where the checkout has none."""
+made first where the checkout has none or has changed since, so that no stale one is packed."""
 
 import base64
 import hashlib
@@ -25,22 +25,29 @@ def _tag():
 
 
 def _metadata():
+    """What pyproject.toml says of the project, and the README as the long description."""
     about = (HERE / "pyproject.toml").read_text()
     field = {name: re.search(rf'^{name} = "(.+)"$', about, re.M)[1] for name in ("description", "requires-python")}
+    author = re.search(r'^authors = \[\{ name = "(.+)" \}\]$', about, re.M)[1]
+    licence = re.search(r'^license = \{ text = "(.+)" \}$', about, re.M)[1]
+    classifiers = re.findall(r'^    "(.+ :: .+)",$', about, re.M)
     return (
         f"Metadata-Version: 2.1\nName: tussockbell\nVersion: {_version()}\n"
         f"Summary: {field['description']}\nRequires-Python: {field['requires-python']}\n"
+        f"Author: {author}\nLicense: {licence}\n"
+        + "".join(f"Classifier: {classifier}\n" for classifier in classifiers)
+        + f"Description-Content-Type: text/markdown\n\n{(CHECKOUT / 'README.md').read_text()}"
     )
 
 
 def build_wheel(wheel_directory, config_settings=None, metadata_directory=None):
     """What pip calls. The answer is the wheel's name."""
-    if not LIBRARY.exists():
-        subprocess.run(["make", "--no-print-directory", "-C", CHECKOUT, "lib"], check=True)
+    subprocess.run(["make", "--no-print-directory", "-C", CHECKOUT, "lib"], check=True)
     about = f"tussockbell-{_version()}.dist-info"
     contents = {f"tussockbell/{name}": (HERE / "tussockbell" / name).read_bytes() for name in FILES}
     contents["tussockbell/libtussockbell.so"] = LIBRARY.read_bytes()
     contents[f"{about}/METADATA"] = _metadata().encode()
+    contents[f"{about}/LICENSE"] = (CHECKOUT / "LICENSE").read_bytes()
     contents[f"{about}/WHEEL"] = f"Wheel-Version: 1.0\nGenerator: tussockbell\nRoot-Is-Purelib: false\nTag: {_tag()}\n".encode()
     record = []
     for path, data in contents.items():
