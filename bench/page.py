@@ -91,6 +91,9 @@ def groups(ratios, pictured=False):
         made += [(peer, f"query, {size} windows", of(peer, "query", size)) for size in ("small", "large")]
         made += [] if pictured else by_fanout[peer]
     if not pictured:
+        # One mean hides that Boost is ahead over few tiles and behind over many.
+        made += [("boost", f"query, f = 16, n = {n:,}", of("boost", "query", "f=16", f"n={n}")) for n in (1_000, 65_536)]
+        made += [("boost", f"query, f = 16, D = {d}", of("boost", "query", "f=16", f"D={d}")) for d in (1, 2, 3, 4)]
         for block in BLOCKS:
             made += [("whole", f"a tree in blocks of {block:,} bytes", of("whole", f"block={block}"))]
             made += [("whole", f"in blocks of {block:,}, f = 2", of("whole", f"block={block}", "f=2"))]
