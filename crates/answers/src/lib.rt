@@ -1,10 +1,12 @@
 // A refusal's number and place, and the rule for a result buffer that may be too short.
+#![tactic(auto)]
+
 ghost use Rattle.std.specs.Prelude.{◌≡◌, min, slice_set};
 ghost use Rattle.answers.specs.Refusals.{refusal, none};
 ghost use Rattle.answers.specs.Checks.{check, otherwise, moved_round};
 
 // Number 0: not refused.
-#[derive(Drop)]
+#[derive(Clone, Copy)]
 pub struct Refusal {
     pub number: u64,
     pub place: u64,

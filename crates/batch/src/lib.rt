@@ -1,4 +1,6 @@
 // All windows of a batch in one call: a run of windows, a run of answers as long, and one result buffer.
+#![tactic(auto)]
+
 ghost use Rattle.std.specs.Prelude.{◌≡◌, length, drop};
 ghost use Rattle.query.specs.Query.{Promises};
 ghost use Rattle.batch.specs.Batch.{batch_of, asked_from, asked_buffer, Batched, Answered};
@@ -9,7 +11,7 @@ use description::Description;
 use query::Answer;
 
 // The answer to a batch: a refusal, or how many windows are answered.
-#[derive(Drop)]
+#[derive(Clone, Copy)]
 pub struct Batch {
     pub number: u64,
     pub place: u64,
@@ -17,7 +19,7 @@ pub struct Batch {
 }
 
 // The answer to one window, and how many places of the buffer are used after it.
-#[derive(Drop)]
+#[derive(Clone, Copy)]
 pub struct Asked {
     pub answer: Answer,
     pub used: usize,
@@ -96,7 +98,7 @@ pub fn ask_from(
         used }
     ensures buffer { out.new ≡ asked_buffer description tiles body.now window
         out.old used }
-    ensures promises { Promises description tiles body.now window result.answer (drop used out.entry.now) (drop used out.new) }
+    ensures promises { Promises description tiles body.now window result.answer (drop used out.old) (drop used out.new) }
 {
     let room = out.len();
     let start = answers::lesser(used, room);

@@ -1,4 +1,6 @@
 // MBRs and windows: their types, a box in its bytes, and the faults of its ranges.
+#![tactic(auto)]
+
 ghost use Rattle.std.specs.Prelude.{◌≡◌};
 ghost use Rattle.description.specs.Description.{sides_of};
 ghost use Rattle.boxes.specs.Boxes.{no_box, box_of, ranges_refusal};
@@ -9,13 +11,13 @@ use ranges::Range;
 use verdicts::Verdict;
 
 // An MBR is an array of four sides, of which the first D count.
-#[derive(Drop)]
+#[derive(Clone, Copy)]
 pub struct Side {
     pub range: Range,
 }
 
 // A query's box, with a number of dimensions of its own.
-#[derive(Drop)]
+#[derive(Clone, Copy)]
 pub struct Window {
     pub dimensions: u64,
     pub sides: [Side; 4],

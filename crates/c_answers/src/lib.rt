@@ -1,4 +1,6 @@
 // What goes back to C in more than one answer: every number of a footer, and where its schema name stands.
+#![tactic(auto)]
+
 ghost use Rattle.std.specs.Prelude.{◌≡◌, cond, [], ◌∷◌, ◌+◌, ◌≤◌, eqb, length};
 ghost use Rattle.std.proofs.lemmas.List.Edits.{sets};
 ghost use Rattle.c_answers.specs.Places.{number_places, range_places, domain_places, footer_places};

@@ -1,5 +1,7 @@
 // What C lends, as the library takes it: a description that comes as numbers, and a window that comes as Datatype
 // numbers and bytes.
+#![tactic(auto)]
+
 ghost use Rattle.std.specs.Prelude.{◌≡◌, ◌&&◌, cond};
 ghost use Rattle.c_arguments.specs.Described.{is_kind_at, all_kinds, numbered_dimensions, describe};
 ghost use Rattle.c_arguments.specs.Windows.{other_side, window_of_bytes};

@@ -1,4 +1,6 @@
 // The box test as an exported function on numbers and slices. include/tussockbell.h declares it for C.
+#![tactic(auto)]
+
 ghost use Rattle.std.specs.Prelude.{◌≡◌, get_or};
 ghost use Rattle.query.specs.BoxTest.{box_test_answer, ReadUp};
 ghost use Rattle.c_arguments.specs.Described.{describe};

@@ -1,5 +1,7 @@
 // A footer's schema name and the cells of its tiles, as exported functions on numbers and slices.
 // include/tussockbell.h declares them for C.
+#![tactic(auto)]
+
 ghost use Rattle.std.specs.Prelude.{◌≡◌, get_or, take, drop};
 ghost use Rattle.footer.specs.Answer.{checked_answer, schema_name, cells_of, tile_cells, all_cells};
 ghost use Rattle.c_arguments.specs.Described.{describe};

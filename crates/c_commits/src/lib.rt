@@ -1,5 +1,7 @@
 // The committed folders of a listing as an exported function on numbers and slices. include/tussockbell.h declares it
 // for C.
+#![tactic(auto)]
+
 ghost use Rattle.std.specs.Prelude.{◌≡◌, get_or};
 ghost use Rattle.answers.specs.Laid.{laid};
 ghost use Rattle.commits.specs.Committed.{committed_answer, committed_lines};

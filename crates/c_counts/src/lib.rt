@@ -1,4 +1,6 @@
 // Sums and null counts as exported functions on numbers and slices. include/tussockbell.h declares them for C.
+#![tactic(auto)]
+
 ghost use Rattle.std.specs.Prelude.{◌≡◌};
 ghost use Rattle.tile_counts.specs.Counts.{sums_answer, sum_answer, null_counts_answer, null_count_answer};
 ghost use Rattle.c_arguments.specs.Described.{describe};

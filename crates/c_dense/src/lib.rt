@@ -1,5 +1,7 @@
 // The dense grid and the dense footer, as exported functions on numbers and slices. include/tussockbell.h declares them
 // for C.
+#![tactic(auto)]
+
 ghost use Rattle.std.specs.Prelude.{◌≡◌, get_or, take, drop};
 ghost use Rattle.footer.specs.Answer.{dense_checked, dense_footer_answer, dense_schema_name};
 ghost use Rattle.c_arguments.specs.Described.{describe};

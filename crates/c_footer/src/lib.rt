@@ -1,4 +1,6 @@
 // Every number of a footer, as an exported function on numbers and slices. include/tussockbell.h declares it for C.
+#![tactic(auto)]
+
 ghost use Rattle.std.specs.Prelude.{◌≡◌};
 ghost use Rattle.footer.specs.Answer.{footer_answer};
 ghost use Rattle.c_arguments.specs.Described.{describe};

@@ -1,4 +1,6 @@
 // The lists of a fragment as exported functions on numbers and slices. include/tussockbell.h declares them for C.
+#![tactic(auto)]
+
 ghost use Rattle.std.specs.Prelude.{◌≡◌};
 ghost use Rattle.lists.specs.Offsets.{offsets_answer, extent_at, extent_answer};
 ghost use Rattle.lists.specs.VarOffsets.{var_offsets_answer, var_extent_answer};

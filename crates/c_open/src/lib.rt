@@ -1,5 +1,7 @@
 // Opening as exported functions on numbers and slices: a footer and a tree together, and a tree that arrives in parts.
 // include/tussockbell.h declares them for C, which keeps the state between the calls as an array of numbers.
+#![tactic(auto)]
+
 ghost use Rattle.std.specs.Prelude.{◌≡◌, List, ℕ, ◌+◌, ◌≤◌, ◌<◌, length, get_or};
 ghost use Rattle.std.proofs.lemmas.List.Edits.{sets};
 ghost use Rattle.description.specs.declared.Description.{Description};

@@ -1,5 +1,7 @@
 // The read plan, and what is told of each tile of a run, as exported functions on numbers and slices.
 // include/tussockbell.h declares them for C.
+#![tactic(auto)]
+
 ghost use Rattle.std.specs.Prelude.{◌≡◌, length};
 ghost use Rattle.plan.specs.Plan.{plan_answer, plan_output, var_plan_answer, var_plan_output, plan_at, output_at};
 ghost use Rattle.tile_runs.specs.Told.{extents_told, cells_told};

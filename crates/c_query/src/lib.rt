@@ -1,5 +1,7 @@
 // The window query and a batch of windows as exported functions on numbers and slices. include/tussockbell.h declares
 // them for C.
+#![tactic(auto)]
+
 ghost use Rattle.std.specs.Prelude.{◌≡◌, ◌++◌, ◌∷◌, [], ◌+◌, ◌-◌, ◌*◌, ◌^◌, ◌≤◌, ◌<◌, length, drop};
 ghost use Rattle.std.proofs.lemmas.List.Edits.{sets};
 ghost use Rattle.query.specs.Query.{query_answer, query_buffer, Promises};

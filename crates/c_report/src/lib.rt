@@ -1,4 +1,6 @@
 // The report as an exported function on slices. include/tussockbell.h declares it for C.
+#![tactic(auto)]
+
 ghost use Rattle.std.specs.Prelude.{◌≡◌, ◌≤◌, length};
 ghost use Rattle.decimal.specs.Write.{put};
 ghost use Rattle.report_text.specs.Text.{most_text, report_text};

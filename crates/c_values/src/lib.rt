@@ -1,4 +1,6 @@
 // Mins and maxes as exported functions on numbers and slices. include/tussockbell.h declares them for C.
+#![tactic(auto)]
+
 ghost use Rattle.std.specs.Prelude.{◌≡◌, get_or, take, drop};
 ghost use Rattle.description.specs.Kinds.{is_datatype};
 ghost use Rattle.var_values.specs.VarValues.{var_values_answer, var_pair_answer, var_place_answer, var_value_of};

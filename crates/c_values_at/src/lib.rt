@@ -1,5 +1,7 @@
 // What is asked of a tile with no check of the body, as exported functions. They stand apart from those that check, so
 // that each is compiled whole: of a function that is called, and answers two numbers, these would go through memory.
+#![tactic(auto)]
+
 ghost use Rattle.std.specs.Prelude.{◌≡◌, get_or, take, drop};
 ghost use Rattle.var_values.specs.VarValues.{var_place_of, var_value_of};
 ghost use Rattle.tile_counts.specs.Counts.{sum_of};

@@ -1,4 +1,6 @@
 // The library's version as an exported function. include/tussockbell.h declares it for C.
+#![tactic(auto)]
+
 ghost use Rattle.std.specs.Prelude.{◌≡◌};
 ghost use Rattle.c_version.specs.Version.{version_number};
 

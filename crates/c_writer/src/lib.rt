@@ -1,4 +1,6 @@
 // The tree writer as exported functions on numbers and slices. include/tussockbell.h declares them for C.
+#![tactic(auto)]
+
 ghost use Rattle.std.specs.Prelude.{◌≡◌, length};
 ghost use Rattle.written.specs.Writing.{length_answer, write_answer, write_buffer};
 ghost use Rattle.c_arguments.specs.Described.{describe};

@@ -1,4 +1,6 @@
 // The schema name of a footer, and the cells of its tiles.
+#![tactic(auto)]
+
 ghost use Rattle.std.specs.Prelude.{◌≡◌, ◌+◌, ◌≤◌, ◌<◌, length, take, drop};
 ghost use Rattle.footer.specs.Answer.{cells_of, schema_name, dense_schema_name, tile_cells, all_cells};
 

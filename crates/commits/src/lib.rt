@@ -1,4 +1,6 @@
 // Only committed fragments: the folders of a listing that count.
+#![tactic(auto)]
+
 ghost use Rattle.std.specs.Prelude.{◌≡◌, ◌-◌, ◌≤◌, ◌<◌, length, take, drop};
 ghost use Rattle.answers.specs.Laid.{laid};
 ghost use Rattle.text.specs.Text.{lines};
@@ -27,7 +29,7 @@ const MOST_VERSION: u64 = 21;
 const HASHED: usize = 32;
 
 // The answer: a refusal, or how many lines are found.
-#[derive(Drop)]
+#[derive(Clone, Copy)]
 pub struct Committed {
     pub number: u64,
     pub place: u64,
@@ -69,7 +71,7 @@ pub fn find_committed(listing: &[u8], time: u64, out: &mut [u32]) -> Committed
 }
 
 // A refusal, or how many lines there are.
-#[derive(Drop)]
+#[derive(Clone, Copy)]
 struct Indexed {
     number: u64,
     place: u64,
@@ -271,7 +273,7 @@ const IGN: usize = 3;
 const NO_KIND: usize = 4;
 
 // A line as a record: its kind, where its name starts, and t2.
-#[derive(Drop)]
+#[derive(Clone, Copy)]
 struct Record {
     good: bool,
     kind: usize,
@@ -328,7 +330,7 @@ fn kind_number(text: &[u8]) -> usize
 }
 
 // A name, and its t2.
-#[derive(Drop)]
+#[derive(Clone, Copy)]
 struct Name {
     good: bool,
     time: u64,

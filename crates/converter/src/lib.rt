@@ -1,6 +1,8 @@
 // The converter: an old footer and body, and the same tree with its float32 ranges as float64. Everything is checked
 // first, as opening checked it before float32 was retired; then the body is written from its start, level by level,
 // each box from the old one.
+#![tactic(auto)]
+
 ghost use Rattle.std.specs.Prelude.{◌≡◌, ◌++◌, ◌+◌, ◌*◌, ◌≤◌, length, drop};
 ghost use Rattle.std.proofs.lemmas.List.Edits.{sets};
 ghost use Rattle.order.specs.Little.{bytes_of};

@@ -1,5 +1,7 @@
 // Decimal numbers, read from text and written to it. Decimal means no leading zeros (0 alone is fine) and a minus only
 // before a nonzero number.
+#![tactic(auto)]
+
 ghost use Rattle.std.specs.Prelude.{◌≡◌, ◌+◌, ◌-◌, ◌^◌, ◌≤◌, ◌<◌, length};
 ghost use Rattle.std.proofs.lemmas.List.Edits.{sets};
 ghost use Rattle.decimal.specs.Decimal.{decimal, starts_well};
@@ -7,19 +9,19 @@ ghost use Rattle.decimal.specs.Read.{read_number, read_next, starts_with_minus, 
 ghost use Rattle.decimal.specs.Write.{put};
 
 // A number that was read. Where nothing was read the value is 0.
-#[derive(Drop)]
+#[derive(Clone, Copy)]
 pub struct Number {
     pub read: bool,
     pub value: u64,
 }
 
-#[derive(Drop)]
+#[derive(Clone, Copy)]
 pub struct Signed32 {
     pub read: bool,
     pub value: i32,
 }
 
-#[derive(Drop)]
+#[derive(Clone, Copy)]
 pub struct Signed64 {
     pub read: bool,
     pub value: i64,
@@ -163,7 +165,7 @@ fn next(most: u64, value: u64, byte: u8) -> Number
 }
 
 // A sign and a magnitude. Where nothing was read, there is no minus and the magnitude is 0.
-#[derive(Drop)]
+#[derive(Clone, Copy)]
 struct SignMagnitude {
     read: bool,
     negative: bool,

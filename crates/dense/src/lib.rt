@@ -1,5 +1,7 @@
 // A window on a dense array: which tiles does it touch? A dense array has no tree: its tiles are a grid, numbered in
 // row-major or column-major order.
+#![tactic(auto)]
+
 ghost use Rattle.std.specs.Prelude.{◌≡◌, [], ◌∷◌, ◌++◌, ◌+◌, ◌-◌, ◌*◌, ◌/◌, ◌^◌, ◌≤◌, ◌<◌, min, length, get_or};
 ghost use Rattle.answers.specs.Checks.{each};
 ghost use Rattle.answers.specs.Runs.{join, filled};
@@ -17,13 +19,13 @@ use description::Description;
 use ranges::Range;
 
 // In row-major order the last dimension is the fastest, in column-major order the first.
-#[derive(Drop)]
+#[derive(Clone, Copy)]
 pub enum Order {
     RowMajor,
     ColumnMajor,
 }
 
-#[derive(Drop)]
+#[derive(Clone, Copy)]
 pub struct DenseAnswer {
     pub number: u64,
     pub place: u64,
@@ -31,14 +33,14 @@ pub struct DenseAnswer {
 }
 
 // The keys of a range's ends.
-#[derive(Drop)]
+#[derive(Clone, Copy)]
 struct Keys {
     low: u64,
     high: u64,
 }
 
 // One axis: its number of tiles, the first that the window meets, and how many it meets.
-#[derive(Drop)]
+#[derive(Clone, Copy)]
 struct Axis {
     tiles: u64,
     first: u64,

@@ -1,4 +1,6 @@
 // Kinds, the description and its limits: what comes with the bytes.
+#![tactic(auto)]
+
 ghost use Rattle.std.specs.Prelude.{◌≡◌, ◌<◌};
 ghost use Rattle.description.specs.Limits.{least_tiles, most_tiles, least_fanout, most_fanout, outside};
 ghost use Rattle.description.specs.Kinds.{range_bytes, datatype, kind_of_datatype, float_of, is_float32, is_float};
@@ -7,7 +9,7 @@ ghost use Rattle.description.specs.Description.{description_refusal, sides_of, b
 
 use answers::Refusal;
 
-#[derive(Drop)]
+#[derive(Clone, Copy)]
 pub enum Kind {
     Int32,
     Int64,
@@ -16,14 +18,14 @@ pub enum Kind {
     Uint64,
 }
 
-#[derive(Drop)]
+#[derive(Clone, Copy)]
 pub struct Dimension {
     pub kind: Kind,
 }
 
 // D dimensions, of which the first D of `kinds` are the kinds; N entries in each per-field list; the capacity C in
 // cells.
-#[derive(Drop)]
+#[derive(Clone, Copy)]
 pub struct Description {
     pub dimensions: u64,
     pub kinds: [Dimension; 4],

@@ -1,4 +1,6 @@
 // The entries of a list: whether tile offsets, var offsets, tile sizes and starts in a buffer keep to their rules.
+#![tactic(auto)]
+
 ghost use Rattle.std.specs.Prelude.{◌≡◌, ◌+◌, ◌*◌, ◌^◌, ◌≤◌, ◌<◌, length};
 ghost use Rattle.order.specs.Little.{little};
 ghost use Rattle.lists.specs.Lists.{entry, list_refusal};
@@ -72,7 +74,7 @@ fn answered(list: Checked, tiles: u64) -> TileOffsets
 
 // What the entries of a list keep to. Offsets: the first is 0, each later one above the one before, all below S. Var
 // offsets: the first is 0, none below the one before, none above S. Sizes: their sum fits.
-#[derive(Drop)]
+#[derive(Clone, Copy)]
 enum Rule {
     Offsets(u64),
     VarOffsets(u64),
@@ -81,7 +83,7 @@ enum Rule {
 
 // Number 0: not refused. The value is what was carried past the last entry, for sizes their sum, and 0 where the list
 // is refused.
-#[derive(Drop)]
+#[derive(Clone, Copy)]
 struct Checked {
     number: u64,
     place: u64,
@@ -117,7 +119,7 @@ fn check_entries(body: &[u8], tiles: u64, header: Refusal, rule: Rule) -> Checke
 }
 
 // Whole: what was carried past the last entry. Bad: where the first entry that breaks the rule starts.
-#[derive(Drop)]
+#[derive(Clone, Copy)]
 enum Scanned {
     Whole(u64),
     Bad(usize),

@@ -3,6 +3,8 @@
 //
 // A case is a row of u64 and then two byte strings: 0 the bytes of the whole case, 8 what to ask, 16 D, 24 to 48 the
 // four kinds, 56 N, 64 C, 72, 80 and 88 further numbers, 96 the bytes of the first string.
+#![tactic(auto)]
+
 ghost use Rattle.std.specs.Prelude.{◌≤◌, ◌<◌};
 
 use boxes::{Side, Window};

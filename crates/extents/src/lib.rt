@@ -1,4 +1,6 @@
 // A tile's offset and extent, after the whole list is checked.
+#![tactic(auto)]
+
 ghost use Rattle.std.specs.Prelude.{◌≡◌};
 ghost use Rattle.lists.specs.Offsets.{extent_answer};
 ghost use Rattle.lists.specs.VarOffsets.{var_extent_answer};

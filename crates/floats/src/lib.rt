@@ -1,4 +1,6 @@
 // Which floats do bit patterns stand for, and in which order? Comparisons whose contracts speak of the patterns alone.
+#![tactic(auto)]
+
 ghost use Rattle.std.specs.Prelude.{◌≡◌, not, ◌&&◌};
 ghost use Rattle.std.specs.Float.{binary32, binary64};
 ghost use Rattle.std.specs.Float.Ieee.{to_bits, of_bits, nan_bits};

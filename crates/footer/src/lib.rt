@@ -1,5 +1,7 @@
 // The footer of a fragment's metadata, checked. Its fields are read in `footer_fields`, its schema name and the cells
 // of its tiles are answered in `cells`.
+#![tactic(auto)]
+
 ghost use Rattle.std.specs.Prelude.{◌≡◌, ◌+◌, ◌*◌, ◌≤◌, length, take, drop};
 ghost use Rattle.answers.specs.Checks.{first};
 ghost use Rattle.answers.specs.Refusals.{the_last_cells};
@@ -17,7 +19,7 @@ use description::Description;
 
 // What differs between the entries that a footer is read by: what is said of the description after 1; the dense flag
 // that is refused; the least and the most tiles; whether the last tile's cells are checked.
-#[derive(Drop)]
+#[derive(Clone, Copy)]
 pub struct Entry {
     pub further: Refusal,
     pub flag: u64,
@@ -56,7 +58,7 @@ impl Entry {
 
 // What opening a tree, the name and the cells need of a footer. `domain` is the start of the domain's box, 0 where
 // refused.
-#[derive(Drop)]
+#[derive(Clone, Copy)]
 pub struct Checked {
     pub number: u64,
     pub place: u64,
@@ -67,7 +69,7 @@ pub struct Checked {
 }
 
 // Every number of a footer. The lists have 0 past the entries that there are.
-#[derive(Drop)]
+#[derive(Clone, Copy)]
 pub struct Footer {
     pub number: u64,
     pub place: u64,

@@ -1,4 +1,6 @@
 // Every number of a footer that passes its checks.
+#![tactic(auto)]
+
 ghost use Rattle.std.specs.Prelude.{◌≡◌, ◌+◌, ◌*◌, ◌≤◌, length};
 ghost use Rattle.description.specs.Limits.{most_fields};
 ghost use Rattle.footer.specs.Answer.{entries, footer_answer, dense_footer_answer, refused_footer, accepted_footer};

@@ -1,5 +1,7 @@
 // Which integers do bit patterns stand for, and in which order? Comparisons whose contracts speak of the patterns
 // alone.
+#![tactic(auto)]
+
 ghost use Rattle.std.specs.Prelude.{◌≡◌, ◌%◌, ◌^◌, leb};
 ghost use Rattle.std.specs.Int.{w32, w64};
 ghost use Rattle.std.proofs.Common.{to_z, of_z};

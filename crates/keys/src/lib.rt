@@ -1,4 +1,6 @@
 // The key of a range's end: the order of the ends is that of their keys.
+#![tactic(auto)]
+
 ghost use Rattle.std.specs.Prelude.{◌≡◌};
 ghost use Rattle.description.specs.Kinds.{key};
 ghost use Rattle.ranges.specs.Ranges.{fitted};

@@ -1,4 +1,6 @@
 // The leaves that a body is to be written of: whether they, the sizes and the room are right, and how long the body is.
+#![tactic(auto)]
+
 ghost use Rattle.std.specs.Prelude.{◌≡◌, true, ◌+◌, ◌*◌, ◌≤◌, length};
 ghost use Rattle.answers.specs.Refusals.{none};
 ghost use Rattle.description.specs.Kinds.{range_bytes};

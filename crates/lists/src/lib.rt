@@ -1,5 +1,7 @@
 // The lists of a fragment, tile offsets, var offsets and tile sizes: the check before a list's entries, and a tile's
 // offset and extent. Whether the entries keep to their rules is asked in `entries`.
+#![tactic(auto)]
+
 ghost use Rattle.std.specs.Prelude.{◌≡◌, ◌-◌, ◌<◌};
 ghost use Rattle.lists.specs.Lists.{entry, list_refusal};
 ghost use Rattle.lists.specs.Offsets.{end_of, extent_at};
@@ -8,7 +10,7 @@ use answers::Refusal;
 use description::Description;
 
 // Number 0: not refused. An accepted list answers n.
-#[derive(Drop)]
+#[derive(Clone, Copy)]
 pub struct TileOffsets {
     pub number: u64,
     pub place: u64,
@@ -16,7 +18,7 @@ pub struct TileOffsets {
 }
 
 // Number 0: not refused. An accepted list answers the sum of its sizes.
-#[derive(Drop)]
+#[derive(Clone, Copy)]
 pub struct TileSizes {
     pub number: u64,
     pub place: u64,
@@ -24,7 +26,7 @@ pub struct TileSizes {
 }
 
 // Where a tile's bytes start in the data file, and how many they are.
-#[derive(Drop)]
+#[derive(Clone, Copy)]
 pub struct Extent {
     pub offset: u64,
     pub extent: u64,

@@ -1,4 +1,6 @@
 // The opened tree: it keeps hold of the lent body, and is asked many times.
+#![tactic(auto)]
+
 ghost use Rattle.std.specs.Prelude.{◌≡◌};
 ghost use Rattle.query.specs.Query.{Promises};
 ghost use Rattle.opened.specs.Held.{held_tiles, kept_part, Holds, OpenedPromises};
@@ -8,7 +10,7 @@ use description::Description;
 use query::Answer;
 
 // A refused one holds an empty body and n 0.
-#[derive(Drop)]
+#[derive(Clone, Copy)]
 pub struct OpenTree<'a> {
     pub body: &'a [u8],
     pub tiles: u64,

@@ -1,4 +1,6 @@
 // Opening a footer and a tree body together.
+#![tactic(auto)]
+
 ghost use Rattle.std.specs.Prelude.{◌≡◌, ◌≤◌, ◌<◌};
 ghost use Rattle.description.specs.Description.{bytes_of_box};
 ghost use Rattle.description.specs.Limits.{least_tiles, most_tiles};

@@ -1,5 +1,7 @@
 // What do bytes stand for? Little-endian numbers, read and stored; and bytes that are copied. The order of bit patterns is defined here too, for
 // the crates that compare integers and floats.
+#![tactic(auto)]
+
 ghost use Rattle.std.specs.Prelude.{◌≡◌, cond, ◌+◌, ◌-◌, ◌%◌, ◌≤◌, ◌<◌, leb, length, get_or};
 ghost use Rattle.std.proofs.lemmas.List.Edits.{sets};
 ghost use Rattle.order.specs.Little.{little, first_of_two, second_of_two, bytes_of};
@@ -84,13 +86,13 @@ pub fn copy(out: &mut [u8], at: usize, bytes: &[u8])
 }
 
 // The two ends of a range.
-#[derive(Drop)]
+#[derive(Clone, Copy)]
 pub struct Pair32 {
     pub low: u32,
     pub high: u32,
 }
 
-#[derive(Drop)]
+#[derive(Clone, Copy)]
 pub struct Pair64 {
     pub low: u64,
     pub high: u64,

@@ -1,5 +1,7 @@
 // A tree body that arrives in parts: from the state of a start on, block takes its bytes as they come, and finish tells
 // what they came to.
+#![tactic(auto)]
+
 ghost use Rattle.std.specs.Prelude.{◌≡◌, true, ◌&&◌, cond, ◌-◌, ◌+◌, ◌≤◌, ◌<◌, eqb, length, take, drop};
 ghost use Rattle.answers.specs.Refusals.{refusal};
 ghost use Rattle.answers.specs.Checks.{otherwise, each};

@@ -1,5 +1,7 @@
 // The state of a tree body that arrives in parts: what goes from call to call, what it holds of the bytes received, and
 // the start, which takes the footer and the stated length of the body. The crate `parts` takes the bytes.
+#![tactic(auto)]
+
 ghost use Rattle.std.specs.Prelude.{◌≡◌, ◌≤◌, length, take};
 ghost use Rattle.parts_state.specs.Took.{Starts};
 ghost use Rattle.parts_state.specs.Code.State.{begun};
@@ -8,7 +10,7 @@ use answers::Refusal;
 use description::Description;
 
 // What has come, in numbers.
-#[derive(Drop)]
+#[derive(Clone, Copy)]
 pub struct Cursor {
     // what is refused for good, whatever comes; number 0 while nothing is
     pub number: u64,
@@ -35,7 +37,7 @@ pub struct Cursor {
 }
 
 // What goes from call to call, beside the work buffer.
-#[derive(Drop)]
+#[derive(Clone, Copy)]
 pub struct Parts {
     // what came with the start: n, the domain's bytes and the stated length of the body
     pub description: Description,

@@ -1,4 +1,6 @@
 // The read plan: which bytes of a data file are read for a run of tiles.
+#![tactic(auto)]
+
 ghost use Rattle.std.specs.Prelude.{◌≡◌, ◌+◌, ◌-◌, ◌*◌, ◌/◌, ◌^◌, ◌<◌, ◌≤◌, false, ◌&&◌, [], ◌∷◌, length, take, if◌then◌else◌, nat_le, nat_lt};
 ghost use Rattle.std.proofs.lemmas.List.Edits.{sets};
 ghost use Rattle.plan.specs.Plan.{range, how_many, words, tile_bytes, plan_after, output_after};
@@ -10,7 +12,7 @@ use answers::Refusal;
 
 // Number 0: not refused. How many ranges there are, how many different tiles the run names, how many of its entries
 // name none, and how many bytes the ranges have; all 0 in a refusal.
-#[derive(Drop)]
+#[derive(Clone, Copy)]
 pub struct ReadPlan {
     pub number: u64,
     pub place: u64,
@@ -179,14 +181,14 @@ fn set_mark(marks: &mut [u8], i: u64)
 }
 
 // Bytes from a start to before an end.
-#[derive(Drop)]
+#[derive(Clone, Copy)]
 struct Range {
     start: u64,
     end: u64,
 }
 
 // How many tiles were met and how many ranges and bytes written; the range that is open, if one is begun.
-#[derive(Drop)]
+#[derive(Clone, Copy)]
 struct Progress {
     tiles: u64,
     ranges: u64,
@@ -197,7 +199,7 @@ struct Progress {
 }
 
 // How many ranges are written, and how many bytes they have.
-#[derive(Drop)]
+#[derive(Clone, Copy)]
 struct Written {
     ranges: u64,
     bytes: u64,

@@ -1,4 +1,6 @@
 // The window query on plain bytes: which tiles does a window touch? And its test of one box.
+#![tactic(auto)]
+
 ghost use Rattle.std.specs.Prelude.{◌≡◌, false, ◌||◌, ◌+◌, ◌*◌, ◌%◌, ◌^◌, ◌≤◌, ◌<◌, ltb, length, take, drop, ◌∷◌};
 ghost use Rattle.std.specs.Float.{binary32, binary64};
 ghost use Rattle.std.specs.Float.Ieee.{nan_bits};
@@ -21,7 +23,7 @@ use description::{Description, Dimension, Kind};
 use ranges::Range;
 use rtree::Shaped;
 
-#[derive(Drop)]
+#[derive(Clone, Copy)]
 pub struct Answer {
     pub number: u64,
     pub place: u64,
@@ -30,13 +32,13 @@ pub struct Answer {
 }
 
 // What a box test says: whether the box meets the window, and how many dimensions were read for that.
-#[derive(Drop)]
+#[derive(Clone, Copy)]
 pub struct Tested {
     pub meets: bool,
     pub read: usize,
 }
 
-#[derive(Drop)]
+#[derive(Clone, Copy)]
 pub struct BoxTest {
     pub number: u64,
     pub place: u64,
@@ -44,13 +46,13 @@ pub struct BoxTest {
 }
 
 // What a walk hands on: how many tiles it found, and how many boxes it looked at.
-#[derive(Drop)]
+#[derive(Clone, Copy)]
 struct Walk {
     found: usize,
     count: usize,
 }
 
-#[derive(Drop)]
+#[derive(Clone, Copy)]
 struct Looked {
     tested: Tested,
     count: usize,
@@ -65,7 +67,7 @@ pub fn query(
     out: &mut [u32],
 ) -> Answer
     ensures answer { result ≡ query_answer description tiles body.now window }
-    ensures buffer { out.new ≡ query_buffer description tiles body.now window out.entry.now }
+    ensures buffer { out.new ≡ query_buffer description tiles body.now window out.old }
     ensures listing { Accepted description tiles body.now → result.number ≡ 0 → Lists description tiles
         body.now window result out.old out.new }
     ensures flat_count { Accepted description tiles body.now → result.number ≡ 0 → result.looked ≡

@@ -1,4 +1,6 @@
 // A range from two decimal numbers, in the kind of its dimension.
+#![tactic(auto)]
+
 ghost use Rattle.std.specs.Prelude.{◌≡◌};
 ghost use Rattle.range_text.specs.Ranges.{read_range};
 
@@ -6,7 +8,7 @@ use description::Kind;
 use ranges::Range;
 
 // A range, and whether both of its ends were read: a number that was not is 0.
-#[derive(Drop)]
+#[derive(Clone, Copy)]
 pub struct ReadRange {
     pub read: bool,
     pub range: Range,

@@ -1,4 +1,6 @@
 // A range of one dimension: read from bytes or made of patterns, its kind and the patterns of its ends.
+#![tactic(auto)]
+
 ghost use Rattle.std.specs.Prelude.{◌≡◌, ◌^◌, ◌<◌};
 ghost use Rattle.description.specs.Kinds.{end_bytes};
 ghost use Rattle.ranges.specs.Ranges.{kind_of, ends_of, ends_at, fitted, range_of, range_at};
@@ -6,7 +8,7 @@ ghost use Rattle.ranges.specs.Ranges.{kind_of, ends_of, ends_at, fitted, range_o
 use description::Kind;
 
 // A minimum and a maximum, of one kind.
-#[derive(Drop)]
+#[derive(Clone, Copy)]
 pub enum Range {
     I32(i32, i32),
     I64(i64, i64),
@@ -16,7 +18,7 @@ pub enum Range {
 }
 
 // The bit patterns of a range's ends.
-#[derive(Drop)]
+#[derive(Clone, Copy)]
 pub struct Patterns {
     pub low: u64,
     pub high: u64,

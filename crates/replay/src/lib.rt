@@ -1,4 +1,6 @@
 // Replay a log: each record's query is asked again, and the answer held to the logged one.
+#![tactic(auto)]
+
 ghost use Rattle.std.specs.Prelude.{◌≡◌, ◌&&◌, ℕ, ◌+◌, ◌*◌, ◌≤◌, leb, eqb, length, take};
 ghost use Rattle.description.specs.Description.{sides_of};
 ghost use Rattle.text.specs.Text.{lines};
@@ -12,7 +14,7 @@ use boxes::{Side, Window};
 use description::Description;
 
 // A refusal, or how long the text is.
-#[derive(Drop)]
+#[derive(Clone, Copy)]
 pub struct Replayed {
     pub number: u64,
     pub place: u64,
@@ -140,7 +142,7 @@ fn write(description: Description, tiles: u64, body: &[u8], log: &[u8], out: &mu
 }
 
 // What came of a record: not good where it is bad, else the logged pair and the pair found now.
-#[derive(Drop)]
+#[derive(Clone, Copy)]
 struct Outcome {
     good: bool,
     found: u64,
@@ -185,7 +187,7 @@ fn outcome_of(description: Description, tiles: u64, body: &[u8], line: &[u8]) ->
 }
 
 // The numbers of a line. Where one is not read, or another follows, `read` is false.
-#[derive(Drop)]
+#[derive(Clone, Copy)]
 struct Logged {
     read: bool,
     window: Window,
@@ -218,7 +220,7 @@ fn read_record(description: Description, line: &[u8]) -> Logged
 }
 
 // The ends of each dimension, and where the numbers after them start.
-#[derive(Drop)]
+#[derive(Clone, Copy)]
 struct Sides {
     read: bool,
     sides: [Side; 4],

@@ -1,11 +1,13 @@
 // Reports what a window finds in a fragment: report DESCRIPTION FOOTER TREE OFFSETS, four files. The work is in
 // `report_text`.
+#![tactic(auto)]
+
 ghost use Rattle.std.specs.Prelude.{◌≤◌, length};
 
 use libc::{STDERR_FILENO, STDOUT_FILENO};
 
 // What came of reading a file: whether it could be read, and how many of its bytes stand at the start of the buffer.
-#[derive(Drop)]
+#[derive(Clone, Copy)]
 struct Loaded {
     read: bool,
     count: usize,

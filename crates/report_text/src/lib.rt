@@ -1,4 +1,6 @@
 // The report: what a window finds in a fragment, as a text. From lent bytes to lent bytes.
+#![tactic(auto)]
+
 ghost use Rattle.std.specs.Prelude.{◌≡◌, ℕ, ◌+◌, ◌≤◌, length, drop};
 ghost use Rattle.answers.specs.Laid.{laid};
 ghost use Rattle.answers.specs.Runs.{filled};
@@ -67,7 +69,7 @@ const MOST_BYTES: usize = 65_536;
 
 // What comes of it: `long` where a file is too long, else the number and place of a refusal, else what the listing goes
 // by.
-#[derive(Drop)]
+#[derive(Clone, Copy)]
 struct Outcome {
     long: bool,
     number: u64,
@@ -163,7 +165,7 @@ fn ended(long: bool, number: u64, place: u64) -> Outcome
 }
 
 // What the description file says: `good` where every line of it is what it has to be.
-#[derive(Drop)]
+#[derive(Clone, Copy)]
 struct Asked {
     good: bool,
     description: Description,
@@ -213,7 +215,7 @@ fn read_asked(text: &[u8]) -> Asked
 
 const MOST_NUMBER: u64 = 0xffff_ffff_ffff_ffff;
 
-#[derive(Drop)]
+#[derive(Clone, Copy)]
 struct Line {
     number: Number,
     next: usize,
@@ -229,7 +231,7 @@ fn read_line(text: &[u8], at: usize, most: u64) -> Line
 }
 
 // The lines of the kinds. A place past D has 64 bits.
-#[derive(Drop)]
+#[derive(Clone, Copy)]
 struct Widths {
     good: bool,
     kinds: [Dimension; 4],
@@ -271,7 +273,7 @@ fn dimension_of(bits: u64) -> Dimension
 }
 
 // The two lines of a side of the window.
-#[derive(Drop)]
+#[derive(Clone, Copy)]
 struct SideLines {
     good: bool,
     side: Side,
@@ -295,7 +297,7 @@ fn read_side(text: &[u8], at: usize, kind: Kind) -> SideLines
 }
 
 // The lines of the window. A place past D has the range that no dimension has.
-#[derive(Drop)]
+#[derive(Clone, Copy)]
 struct WindowLines {
     good: bool,
     sides: [Side; 4],

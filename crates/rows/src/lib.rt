@@ -1,4 +1,6 @@
 // A row of boxes in their bytes, each checked alone and against one box around them all.
+#![tactic(auto)]
+
 ghost use Rattle.std.specs.Prelude.{◌≡◌, true, false, ◌&&◌, ◌+◌, ◌^◌, ◌≤◌, ◌<◌, length};
 ghost use Rattle.answers.specs.Refusals.{refusal};
 ghost use Rattle.answers.specs.Checks.{otherwise};
@@ -48,7 +50,7 @@ pub fn check_row(
 }
 
 // The box around a row: how many bytes a box has, and whether this one is there whole, with no fault.
-#[derive(Drop)]
+#[derive(Clone, Copy)]
 struct Around {
     box_bytes: usize,
     sound: bool,

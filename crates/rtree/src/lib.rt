@@ -1,4 +1,6 @@
 // The R-tree body: its fields and its shape, which opening and the window query both check first.
+#![tactic(auto)]
+
 ghost use Rattle.std.specs.Prelude.{◌≡◌, ℕ, ◌≤◌, ◌<◌, length};
 ghost use Rattle.answers.specs.Refusals.{refusal};
 ghost use Rattle.answers.specs.Checks.{otherwise};
@@ -12,7 +14,7 @@ use description::Description;
 use tree::Shape;
 
 // What opening answers. `which` of the two byte strings the place counts in: 0 the footer, 1 the body.
-#[derive(Drop)]
+#[derive(Clone, Copy)]
 pub struct Opened {
     pub number: u64,
     pub place: u64,
@@ -37,7 +39,7 @@ pub fn refused_in(which: u64, number: u64, place: u64) -> Opened
 }
 
 // What the check of a body's shape tells: its refusal, the stored fanout, and the shape that the tree has with it.
-#[derive(Drop)]
+#[derive(Clone, Copy)]
 pub struct Shaped {
     pub number: u64,
     pub place: u64,

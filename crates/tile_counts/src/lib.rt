@@ -1,4 +1,6 @@
 // The sums of a field's tiles, which are raw numbers, and their null counts, with the footer.
+#![tactic(auto)]
+
 ghost use Rattle.std.specs.Prelude.{◌≡◌, true, ◌&&◌, ℕ, ◌+◌, ◌*◌, ◌≤◌, ◌<◌, leb, length};
 ghost use Rattle.footer.specs.Answer.{cells_of};
 ghost use Rattle.lists.specs.Lists.{entry, list_refusal};

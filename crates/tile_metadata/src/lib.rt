@@ -1,5 +1,7 @@
 // What the mins, maxes, sums and null counts of a field's tiles have in common: the check before a body's values, what
 // one body and two that are lent together answer, and tile i's value as it stands there.
+#![tactic(auto)]
+
 ghost use Rattle.std.specs.Prelude.{◌≡◌, not, ◌+◌, eqb};
 ghost use Rattle.tile_metadata.specs.Bodies.{layout_refusal, answered, together, value_at, value_of};
 
@@ -7,7 +9,7 @@ use answers::Refusal;
 use description::Description;
 
 // Number 0: not refused. An accepted body answers n.
-#[derive(Drop)]
+#[derive(Clone, Copy)]
 pub struct TileValues {
     pub number: u64,
     pub place: u64,
@@ -15,7 +17,7 @@ pub struct TileValues {
 }
 
 // Number 0: not refused. `which` of the two that were lent together the place counts in: 0 the first, 1 the second.
-#[derive(Drop)]
+#[derive(Clone, Copy)]
 pub struct TwoBodies {
     pub number: u64,
     pub place: u64,

@@ -1,4 +1,6 @@
 // What is told of each tile of a run in one call, with no check: offset and extent, and the cells.
+#![tactic(auto)]
+
 ghost use Rattle.std.specs.Prelude.{◌≡◌};
 ghost use Rattle.tile_runs.specs.Told.{extents_told, cells_told};
 

@@ -1,4 +1,6 @@
 // The mins and maxes of a field of a fixed kind, alone and as a pair, and a tile's value.
+#![tactic(auto)]
+
 ghost use Rattle.std.specs.Prelude.{◌≡◌, true, false, ◌&&◌, ℕ, ◌+◌, ◌*◌, ◌≤◌, ◌<◌, leb, length};
 ghost use Rattle.order.specs.Little.{little};
 ghost use Rattle.description.specs.Kinds.{end_bytes, is_nan, key, ordered, at_most};
@@ -11,7 +13,7 @@ use description::Kind;
 use tile_metadata::{TileValues, TwoBodies};
 
 // The patterns of a tile's min and max.
-#[derive(Drop)]
+#[derive(Clone, Copy)]
 pub struct Bounds {
     pub min: u64,
     pub max: u64,

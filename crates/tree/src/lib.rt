@@ -1,5 +1,7 @@
 // The shape of a packed tree, from its tiles and its fanout: how many boxes each level has and where they stand in a
 // body. A level is named by its distance from the leaves.
+#![tactic(auto)]
+
 ghost use Rattle.std.specs.Prelude.{◌≡◌, ◌+◌, ◌-◌, ◌*◌, ◌≤◌, min};
 ghost use Rattle.std.proofs.lemmas.List.Edits.{sets};
 ghost use Rattle.description.specs.Limits.{Sizes};
@@ -12,7 +14,7 @@ use description::Description;
 const MOST_BOX_BYTES: usize = 64;
 
 // The shape of a packed tree in a body whose boxes have `box_bytes` bytes.
-#[derive(Drop)]
+#[derive(Clone, Copy)]
 pub struct Shape {
     // L
     pub levels: usize,
@@ -88,7 +90,7 @@ fn outside_limits(tiles: usize, fanout: usize, box_bytes: usize) -> bool
 }
 
 // What a level gives back to the one below it: L, the boxes from it up to the root, the place of its first box.
-#[derive(Drop)]
+#[derive(Clone, Copy)]
 struct Filled {
     levels: usize,
     boxes: usize,

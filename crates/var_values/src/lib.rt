@@ -1,4 +1,6 @@
 // The mins and maxes of a var field, alone and as a pair, and a tile's value as a part of the lent body.
+#![tactic(auto)]
+
 ghost use Rattle.std.specs.Prelude.{◌≡◌, true, ◌&&◌, ℕ, ◌+◌, ◌-◌, ◌*◌, ◌≤◌, ◌<◌, length};
 ghost use Rattle.lists.specs.Lists.{entry};
 ghost use Rattle.lists.specs.Offsets.{end_of};

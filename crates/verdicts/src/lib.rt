@@ -1,4 +1,6 @@
 // A range judged: the verdict on it, and what that says of a stored range and of a window's.
+#![tactic(auto)]
+
 ghost use Rattle.std.specs.Prelude.{◌≡◌, cond};
 ghost use Rattle.ranges.specs.Ranges.{ends_of};
 ghost use Rattle.verdicts.specs.Verdicts.{verdict, stored_refusal, asked_refusal};
@@ -8,7 +10,7 @@ use ranges::Range;
 
 // The verdict on a range: what its ends are, and whether they are in order. A stored range must be sound; a window's
 // may be infinite.
-#[derive(Drop)]
+#[derive(Clone, Copy)]
 pub enum Verdict {
     Sound(Range),
     Infinite(Range),

@@ -1,4 +1,6 @@
 // A window: checked against a description, and its ends as plain numbers.
+#![tactic(auto)]
+
 ghost use Rattle.std.specs.Prelude.{◌≡◌};
 ghost use Rattle.description.specs.Description.{sides_of};
 ghost use Rattle.ranges.specs.Ranges.{kind_of};

@@ -1,5 +1,7 @@
 // The R-tree body written from its leaves: everything is checked first, by `leaves`; then the leaves go to their place,
 // and each level is made of the one below it, where that stands in the output buffer.
+#![tactic(auto)]
+
 ghost use Rattle.std.specs.Prelude.{◌≡◌, cond, ◌++◌, ◌+◌, ◌-◌, ◌*◌, ◌%◌, ◌^◌, ◌≤◌, ◌<◌, ltb, length, drop};
 ghost use Rattle.answers.specs.Runs.{join};
 ghost use Rattle.std.specs.Float.Ieee.{lt, le};
