@@ -40,8 +40,8 @@ help:
 # so its text decides: 0 only for a report, which begins with the number of tiles.
 report:
 	@mkdir -p build
-	@rt check report 2>&1 | tee build/report.log | tools/progress 3 report || { cat build/report.log >&2; exit 1; }
-	@said=$$(target/bin/report $(foreach file,DESCRIPTION FOOTER TREE OFFSETS,$(call quoted,$($(file))))) || exit 1; \
+	@(cd crates/report && rt lib) 2>&1 | tee build/report.log | tools/progress 5 report || { cat build/report.log >&2; exit 1; }
+	@said=$$(crates/report/out/report $(foreach file,DESCRIPTION FOOTER TREE OFFSETS,$(call quoted,$($(file))))) || exit 1; \
 	    [ -z "$$said" ] || printf '%s\n' "$$said" || exit 1; \
 	    [[ $$said = tiles$$'\t'* ]]
 
@@ -50,12 +50,11 @@ report:
 EXPORTS := c_footer c_cells c_lists c_plan c_values c_values_at c_counts c_open c_query c_box_test c_writer c_convert c_dense c_commits c_replay c_report
 EXPORTS += c_version
 
-# Made anew where a file that the proofs or the code rest on is newer; what the prover says goes to build/lib.log, and
-# what it says of each exporting crate to a log of its own. One after the other: of two at once, each may find a crate that
-# the other is just looking at not proved.
+# Made anew where a file that the proofs or the code rest on is newer; what the prover says goes to build/lib.log. One crate
+# after the other: what one has proved of the crates below, the next need not prove.
 lib: build/libtussockbell.so
 
-SOURCES := find crates -name '*.rt' -o -name '*.antt' | sort
+SOURCES := find crates -name out -prune -o '(' -name '*.rt' -o -name '*.antt' ')' -print | sort
 
 # The names of the sources, written where they changed, so that one which is gone is noticed too.
 build/sources: FORCE
@@ -65,13 +64,9 @@ build/sources: FORCE
 build/libtussockbell.a: crates.txt Makefile build/sources $(shell $(SOURCES))
 	@mkdir -p build/objects
 	@rm -f build/objects/* $@
-	@rt check $(EXPORTS) 2>&1 | tee build/lib.log | tools/progress 8 $(EXPORTS) || { cat build/lib.log >&2; exit 1; }
-	@printf 'compiling $(words $(EXPORTS)) crates\n' >&2; compiled=0; \
-	for crate in $(EXPORTS); do \
-	    rt staticlib $$crate > build/$$crate.log 2>&1 || { cat build/$$crate.log >&2; exit 1; }; \
-	    compiled=$$((compiled + 1)); [ ! -t 2 ] || printf '\r%s crates compiled ' $$compiled >&2; \
-	done; [ ! -t 2 ] || printf '\n' >&2
-	@for crate in $(EXPORTS); do (cd build/objects && ar x ../../target/staticlib/lib$$crate.a) || exit 1; done
+	@for crate in $(EXPORTS); do (cd crates/$$crate && rt lib) || exit 1; done 2>&1 | tee build/lib.log | \
+	    tools/progress 15 $(EXPORTS) || { cat build/lib.log >&2; exit 1; }
+	@for crate in $(EXPORTS); do (cd build/objects && ar x ../../crates/$$crate/out/lib$$crate.a) || exit 1; done
 	@for object in build/objects/*.o; do objcopy --set-section-alignment '.text*=32' $$object || exit 1; done
 	@ar rcs $@ build/objects/*.o
 
@@ -133,5 +128,5 @@ bench:
 	@bench/run
 
 clean:
-	@rm -rf build target tests/*/target bindings/rust/target bindings/python/build bench/target
+	@rm -rf build crates/*/out tests/*/target bindings/rust/target bindings/python/build bench/target
 	@find tests bench bindings -name __pycache__ -type d -exec rm -rf {} +

@@ -18,10 +18,10 @@ import unittest
 
 ROOT = pathlib.Path(__file__).resolve().parents[2]
 PAGE = ROOT / "docs/PROMISES.md"
-CRATES = re.findall(r"^(\w+):", (ROOT / "crates.txt").read_text(), re.M)
+CRATES = re.findall(r"^(\w+)(?: staticlib)?:", (ROOT / "crates.txt").read_text(), re.M)
 DEFINITION, CONTRACT, RULED_OUT = "Definition", "Contract or theorem", "Ruled out by"
 # The pages that name files, and what of them is made and not stored.
-READING, GUIDES, MADE = "docs/READING.md", ["docs/READING.md", "CONTRIBUTING.md"], ("target/", "build/")
+READING, GUIDES, MADE = "docs/READING.md", ["docs/READING.md", "CONTRIBUTING.md"], ("crates/NAME/out/", "build/")
 
 TOKEN = re.compile(
     r"`(?P<name>[^`]+)`|\b(?P<file>(?:[a-z_]+/)?(?:[A-Z]\w*/)*[A-Z]\w*):(?!:)|(?P<clause>\bclauses?\b)|(?P<end>;)"

@@ -17,7 +17,7 @@ import pieces
 import report as reference
 import rules
 
-PROGRAM = here.parent.parent / "target/bin/report"
+PROGRAM = here.parent.parent / "crates/report/out/report"
 PARTS = ("description", "footer", "tree", "offsets")
 
 

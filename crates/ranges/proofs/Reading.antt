@@ -56,6 +56,16 @@ eight-bytes Float32 h = absurd (miss (1 ∷ 3 ∷ 4 ∷ []) 2 tt h)
 eight-bytes Float64 h = refl
 eight-bytes Uint64 h = refl
 
+-- and by the kinds of that many
+pub four_bytes-kinds : (k : Kind) → (k ≡ Int32) ⊎ (k ≡ Float32) → end_bytes k ≡ 4
+four_bytes-kinds k (inl e) = rw e
+four_bytes-kinds k (inr e) = rw e
+
+pub eight_bytes-kinds : (k : Kind) → (k ≡ Int64) ⊎ ((k ≡ Float64) ⊎ (k ≡ Uint64)) → end_bytes k ≡ 8
+eight_bytes-kinds k (inl e) = rw e
+eight_bytes-kinds k (inr (inl e)) = rw e
+eight_bytes-kinds k (inr (inr e)) = rw e
+
 -- ---- a pattern that fits, and its value's
 pub fitted-same : (k : Kind) (p : ℕ) → p < 256 ^ end_bytes k → fitted k p ≡ p
 fitted-same k p h = mod-eq_of_lt h

@@ -17,4 +17,4 @@ returns-then-n-at-ge8 c =
     let x = a.args in
     let e = rw a.store_four.ensures at b.store_four-then-n-at-ge8.ensures in
     e
-    ∙ rw (le-leb (x.at + 8) (length x.out-1.now) (omega arith), bytes_halves 4 4 x.x, sets-append, bytes-length 4 (x.x % 256 ^ 4))
+    ∙ rw (le-leb (x.at + 8) (length x.out.now) (omega arith), bytes_halves 4 4 x.x, sets-append, bytes-length 4 (x.x % 256 ^ 4))
