@@ -2,7 +2,7 @@
 -- (`whole`). A list is written value by value: the values still to come over what stands there now are all values over
 -- what stood there first. And an array that is made place by place of a list's values is that list (`listed`).
 -- Assumes nothing.
-use Rattle.std.proofs.Common.{◌≡◌, ℕ, suc, ◌+◌, ◌<◌, ◌≤◌, List, [], ◌∷◌, ◌++◌, length, get_or, drop, set, sym, refl, ap, ◌∙◌, append-nil, zero-add, add-one, arith, length-append, drop_of_length-le, drop-cons, ext_get_or}
+use Rattle.std.proofs.Common.{◌≡◌, ℕ, suc, ◌+◌, ◌<◌, ◌≤◌, List, [], ◌∷◌, ◌++◌, length, get_or, drop, set, sym, refl, ◌∙◌, append-nil, zero-add, add-one, arith, length-append, drop_of_length-le, drop-cons, ext_get_or}
 use lib.Seq.{sets, sets-eq, drop-length}
 use Rattle.answers.specs.Runs.{join}
 use Rattle.answers.proofs.Filled.{row-length, row_at}

@@ -6,7 +6,6 @@ use Rattle.description.specs.declared.Kind.{Kind}
 use Rattle.description.specs.declared.Dimension.{Dimension}
 use Rattle.description.specs.Kinds.{end_bytes, key}
 use Rattle.description.specs.Description.{kind_at, side_start}
-use Rattle.ranges.specs.Ranges.{Ends}
 use Rattle.boxes.specs.Boxes.{side_at}
 
 -- of the numbers k, k + 1, .. , 1 + more of them, the first that is as good as any other

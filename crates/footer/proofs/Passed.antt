@@ -10,7 +10,7 @@ use lib.ListN.{length, take, drop}
 use borrow.Author.Tests.{eq-eqb, ne_eqb, eqb-true, ltb-false, not-false}
 use Rattle.answers.specs.Refusals as refusals
 use Rattle.answers.specs.Refusals.{none}
-use Rattle.answers.specs.Checks.{otherwise, first}
+use Rattle.answers.specs.Checks.{first}
 use Rattle.answers.proofs.Checks.{clear, check-clear, both-clear}
 use Rattle.description.specs.declared.Description.{Description}
 use Rattle.description.specs.Limits.{least_version, most_version, least_name, most_name}

@@ -9,7 +9,7 @@ use Rattle.description.specs.declared.Description.{Description}
 use Rattle.footer.specs.declared.Checked.{Checked}
 use Rattle.footer.specs.declared.Entry.{Entry}
 use Rattle.footer.specs.Checks.{entry_refusal}
-use Rattle.footer.specs.Answer.{accepted_checked, refused_checked, accepted_footer, refused_footer, entry_checked, entry_answer}
+use Rattle.footer.specs.Answer.{accepted_checked, refused_checked, entry_checked, entry_answer}
 use Rattle.footer.proofs.Passed.{ready_by}
 use Rattle.footer_fields.specs.Code.Places.{Whole, footer_of}
 

@@ -2,7 +2,7 @@
 -- domain (`said-second`), or the numbers of an accepted tree (`said-opened`). The domain's box is lent as that part of
 -- the footer where the footer's check places it.
 -- Assumes nothing.
-use mathlib.Core.Path.{◌≡◌, ap, sym, ◌∙◌}
+use mathlib.Core.Path.{◌≡◌, ap, ◌∙◌}
 use mathlib.Core.List.{List}
 use Prim.Native.Nat.{ℕ, ◌+◌, ◌-◌}
 use native.Mathlib.Omega.{arith}

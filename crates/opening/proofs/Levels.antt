@@ -22,9 +22,9 @@ use Rattle.tree.proofs.Table.{shape-levels, start-at, count_at}
 use Rattle.rtree.specs.declared.Shaped.{Shaped}
 use Rattle.rtree.specs.Body.{fanout_of, shape_refusal}
 use Rattle.rtree.specs.Opening.{root_refusal, level_refusal, boxes_refusal, body_refusal}
-use Rattle.rtree.specs.Code.Shaped.{tiles_refusal, shaped_refusal, IsShaped}
+use Rattle.rtree.specs.Code.Shaped.{tiles_refusal, IsShaped}
 use Rattle.rtree.proofs.Passed.{Passed, box-bytes-most, shaped-passed, shaped-within}
-use Rattle.opening.specs.Code.Stored.{run_refusal, table_refusal, Run, Rows, TwoLevels}
+use Rattle.opening.specs.Code.Stored.{run_refusal, table_refusal, Run, TwoLevels}
 use Rattle.opening.proofs.Rows.{rows-level}
 
 alone : (r t : Refusal) → otherwise (otherwise r none) t ≡ otherwise r t

@@ -3,16 +3,16 @@
 -- after the other, are the level below it: each box once, against its own parent (`rows-level`).
 -- Assumes nothing.
 use mathlib.Core.Path.{◌≡◌, refl, ap, sym, ◌∙◌}
-use mathlib.Core.Bool.{Bool, true, false, not, cond}
+use mathlib.Core.Bool.{Bool, true, false, not}
 use mathlib.Core.List.{List}
 use Prim.Native.Nat.{ℕ, zero, suc, ◌+◌, ◌-◌, ◌*◌, ◌/◌, ◌≤◌, ◌<◌, min}
-use native.Mathlib.Nat.{add-zero, zero-add, add_assoc, add-suc, suc-add}
+use native.Mathlib.Nat.{add-zero, zero-add, add-suc, suc-add}
 use native.Mathlib.Nat.{mul-le-mul_right, mul-le-mul_left, div-eq_of_lt-le, div-mul-le_self}
 use native.Mathlib.Decide.{dec_le}
 use native.Mathlib.Omega.{arith}
 use lib.ListN.{length, take, drop, length-take, length-drop}
 use lib.Seq.{drop-drop}
-use Rattle.answers.specs.Refusals.{refusal, none, outside_parent}
+use Rattle.answers.specs.Refusals.{none, outside_parent}
 use Rattle.answers.specs.Runs.{over}
 use Rattle.answers.specs.Checks.{check, otherwise, each, moved}
 use Rattle.answers.specs.declared.Refusal.{Refusal}

@@ -1,15 +1,15 @@
 -- Any list of blocks, chained through the contracts of start, block and finish, answers for all of their bytes, however
 -- they were cut: what a start has is carried on block by block (`fed`), and a finish answers by it (`chained`).
 -- Assumes nothing.
-use mathlib.Core.Path.{◌≡◌, refl, ap, sym, ◌∙◌}
-use mathlib.Core.List.{List, [], ◌∷◌, ◌++◌, append-nil, append_assoc}
+use mathlib.Core.Path.{◌≡◌, refl, ◌∙◌}
+use mathlib.Core.List.{List, [], ◌++◌, append-nil, append_assoc}
 use Prim.Native.Nat.{ℕ}
 use lib.ListN.{length}
 use Rattle.description.specs.declared.Description.{Description}
 use Rattle.rtree.specs.declared.Opened.{Opened}
 use Rattle.parts_state.specs.declared.Parts.{Parts}
 use Rattle.parts_state.specs.Parts.{parts_answer}
-use Rattle.parts_state.specs.Took.{Took, Starts, Carries, Answers, Fed, none, more, all_bytes}
+use Rattle.parts_state.specs.Took.{Took, Starts, Answers, Fed, none, more, all_bytes}
 
 module _ (d : Description) (F : ℕ) (footer : List ℕ) (stated : ℕ) where
   fed : {s r : Parts} {work after : List ℕ} {blocks : List (List ℕ)} → Fed s work blocks r after → (got : List ℕ)

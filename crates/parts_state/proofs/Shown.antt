@@ -2,19 +2,19 @@
 -- (`say-footer`, `say-shown`, `say-open`, `say-other`). The counts that are there say nothing where they are right
 -- (`counts-none`), and the first wrong one decides (`count-stops`).
 -- Assumes nothing.
-use mathlib.Core.Path.{◌≡◌, refl, ap}
-use mathlib.Core.Bool.{Bool, true, false, not, ◌&&◌, cond}
+use mathlib.Core.Path.{◌≡◌, refl}
+use mathlib.Core.Bool.{Bool, true, false, not, ◌&&◌}
 use mathlib.Core.List.{List}
-use Prim.Native.Nat.{ℕ, zero, suc, ◌+◌, ◌-◌, ◌*◌, ◌≤◌, ◌<◌, min}
+use Prim.Native.Nat.{ℕ, suc, ◌+◌, ◌-◌, ◌≤◌, ◌<◌, min}
 use native.Mathlib.Nat.{zero-add}
 use native.Mathlib.Omega.{arith}
-use lib.Dec.{ltb, leb, eqb}
+use lib.Dec.{leb, eqb}
 use lib.ListN.{length}
-use borrow.Author.Tests.{eq-eqb, ne_eqb, le-leb, lt-leb, le-ltb, lt-ltb, leb-true, ltb-false, eqb-true}
+use borrow.Author.Tests.{eq-eqb, ne_eqb, le-leb, lt-leb, le-ltb, leb-true}
 use Rattle.answers.specs.Refusals as refusals
-use Rattle.answers.specs.Checks.{check, otherwise, first, each}
+use Rattle.answers.specs.Checks.{check, otherwise, first}
 use Rattle.answers.specs.declared.Refusal.{Refusal}
-use Rattle.answers.proofs.Checks.{go_on, halt, turn, all-clear, each-add, first-none, last}
+use Rattle.answers.proofs.Checks.{turn, all-clear, each-add, first-none, last}
 use Rattle.description.specs.declared.Description.{Description}
 use Rattle.description.specs.Description.{bytes_of_box}
 use Rattle.tree.specs.Shape.{boxes, height, levels, level_start}

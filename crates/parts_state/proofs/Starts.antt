@@ -2,25 +2,22 @@
 -- stated length under 8 (`starts-short`); otherwise nothing is held yet (`starts-blank`).
 -- Assumes nothing.
 use mathlib.Core.Path.{◌≡◌, refl, ap, sym, ◌∙◌}
-use mathlib.Core.List.{List, ◌++◌}
-use Prim.Native.Nat.{ℕ, ◌+◌, ◌-◌, ◌≤◌, ◌<◌, min}
-use native.Mathlib.Nat.{zero-add}
+use mathlib.Core.List.{List}
+use Prim.Native.Nat.{ℕ, ◌+◌, ◌-◌, ◌≤◌, ◌<◌}
 use native.Mathlib.Omega.{arith}
 use lib.ListN.{length, take, drop, length-take, length-drop}
 use borrow.Author.Tests.{lt-ltb}
 use Rattle.answers.specs.Refusals as refusals
-use Rattle.answers.specs.Checks.{otherwise, first}
+use Rattle.answers.specs.Checks.{first}
 use Rattle.description.specs.declared.Description.{Description}
 use Rattle.description.specs.Description.{bytes_of_box}
 use Rattle.footer.specs.declared.Checked.{Checked}
-use Rattle.footer.specs.Fields.{tiles_of, domain_bytes}
+use Rattle.footer.specs.Fields.{domain_bytes}
 use Rattle.footer.specs.Checks.{footer_refusal}
 use Rattle.footer.specs.Answer.{checked_answer, refused_checked}
 use Rattle.footer.proofs.Passed.{checked-number, checked_refused, Ready, ready}
-use Rattle.rtree.specs.Opening.{refused_in}
-use Rattle.parts_state.specs.declared.Parts.{Parts}
-use Rattle.parts_state.specs.Parts.{front_shown, shown_refusal, counts_shown, parts_answer}
-use Rattle.parts_state.specs.Code.State.{begun, Blank, Going, Holds}
+use Rattle.parts_state.specs.Parts.{front_shown, shown_refusal}
+use Rattle.parts_state.specs.Code.State.{begun, Holds}
 use Rattle.parts_state.proofs.Shown.{shown, say-footer, say-shown}
 
 module _ (d : Description) (F : ℕ) (footer : List ℕ) (stated : ℕ) {c : Checked} (e : c ≡ checked_answer d F footer) (body work : List ℕ) where

@@ -1,29 +1,28 @@
 -- Bytes that add up to the stated length come to what opening the whole says, unless 21 is due. What is shown of a body
 -- that is there whole is what its shape says (`shown-shape`), check by check; `whole` is the theorem.
 -- Assumes nothing.
-use mathlib.Core.Path.{◌≡◌, refl, ap, sym, ◌∙◌}
-use mathlib.Core.Bool.{Bool, true, false, not, ◌&&◌, cond}
+use mathlib.Core.Path.{◌≡◌, refl, ◌∙◌}
+use mathlib.Core.Bool.{Bool, true, false}
 use mathlib.Core.List.{List, [], ◌∷◌}
-use Prim.Native.Nat.{ℕ, zero, suc, ◌+◌, ◌-◌, ◌*◌, ◌≤◌, ◌<◌, min}
+use Prim.Native.Nat.{ℕ, ◌-◌, ◌≤◌, min}
 use native.Mathlib.Omega.{arith}
-use lib.Dec.{ltb, leb, eqb}
+use lib.Dec.{ltb, eqb}
 use lib.ListN.{length}
-use borrow.Author.Tests.{eq-eqb, ne_eqb, le-leb, ltb-false, eqb-true, eqb-false}
+use borrow.Author.Tests.{ne_eqb, le-leb, ltb-false, eqb-true, eqb-false}
 use Rattle.answers.specs.Refusals as refusals
-use Rattle.answers.specs.Runs.{over}
-use Rattle.answers.specs.Checks.{check, otherwise, first, each}
+use Rattle.answers.specs.Checks.{otherwise, first}
 use Rattle.answers.specs.declared.Refusal.{Refusal}
 use Rattle.answers.proofs.Runs.{over-ext}
 use Rattle.answers.proofs.Checks.{halt, last, each_none}
 use Rattle.description.specs.declared.Description.{Description}
 use Rattle.description.specs.Description.{bytes_of_box}
 use Rattle.description.specs.Limits.{least_fanout, most_fanout, outside}
-use Rattle.tree.specs.Shape.{boxes, height, levels, level_start, body_bytes}
+use Rattle.tree.specs.Shape.{height, levels, level_start, body_bytes}
 use Rattle.tree.proofs.Places.{level-inside}
 use Rattle.footer.specs.Fields.{tiles_of, domain_bytes}
 use Rattle.footer.specs.Checks.{footer_refusal}
 use Rattle.rtree.specs.Body.{fanout_of, levels_of, count_refusal, counts_refusal, stored_count, front_refusal, size_refusal, shape_refusal}
-use Rattle.rtree.specs.Opening.{boxes_refusal, body_refusal, refused_in, open_answer, open_answer_by}
+use Rattle.rtree.specs.Opening.{boxes_refusal, body_refusal, open_answer, open_answer_by}
 use Rattle.parts_state.specs.Parts.{inner_bytes, front_shown, count_shown, counts_shown, shown_refusal, parts_answer}
 use Rattle.parts_state.proofs.Shown.{say-footer, say-shown, say-open}
 

@@ -1,7 +1,7 @@
 -- Opening a body that arrives in parts: what footer, stated length, the work buffer's room and all bytes received come
 -- to, however they were cut into blocks.
 -- Assumes nothing.
-use Rattle.std.specs.Prelude.{ℕ, ◌-◌, ◌*◌, min, Bool, not, ◌&&◌, cond, List, [], ◌∷◌, ltb, leb, eqb, length}
+use Rattle.std.specs.Prelude.{ℕ, ◌-◌, ◌*◌, min, not, ◌&&◌, cond, List, [], ◌∷◌, ltb, leb, eqb, length}
 use Rattle.answers.specs.Refusals as refusals
 use Rattle.answers.specs.Checks.{check, otherwise, first, each}
 use Rattle.answers.specs.declared.Refusal.{Refusal}

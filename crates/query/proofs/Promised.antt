@@ -8,7 +8,7 @@ use mathlib.Core.Bool.{Bool, true, false, cond}
 use mathlib.Core.List.{List}
 use native.Mathlib.Omega.{arith}
 use lib.Dec.{eqb}
-use lib.ListN.{length, get_or}
+use lib.ListN.{length}
 use borrow.Author.Tests.{eq-eqb, ne_eqb, eqb-true}
 use Rattle.answers.specs.Refusals.{refusal}
 use Rattle.answers.specs.declared.Refusal.{Refusal}
@@ -29,9 +29,9 @@ use Rattle.tree.proofs.Demand3.{at-most, counted, listed}
 use Rattle.tree.proofs.Table.{shape-levels, count_at}
 use Rattle.rtree.specs.Body.{fanout_of, levels_of, box_at, shape_refusal}
 use Rattle.rtree.specs.Opening.{Accepted}
-use Rattle.rtree.specs.Code.Shaped.{shaped_refusal, IsShaped}
+use Rattle.rtree.specs.Code.Shaped.{IsShaped}
 use Rattle.rtree.specs.declared.Shaped.{Shaped}
-use Rattle.rtree.proofs.Passed.{Passed, passed, shaped-within}
+use Rattle.rtree.proofs.Passed.{passed, shaped-within}
 use Rattle.rtree.proofs.Nested.{nested}
 use Rattle.query.specs.declared.Answer.{Answer}
 use Rattle.query.specs.declared.Walk.{Walk}

@@ -9,14 +9,14 @@ use native.Mathlib.Omega.{arith}
 use native.Mathlib.Nat.{mul-le-mul_right}
 use lib.ListN.{length, get_or, set, take, drop}
 use Rattle.description.specs.Limits.{most_tiles}
-use Rattle.tree.specs.Shape.{boxes, children, height, level_start, shape_of}
+use Rattle.tree.specs.Shape.{boxes, children, level_start}
 use Rattle.tree.specs.Code.Run.{State}
 use Rattle.tree.proofs.Counts.{boxes-le, first-child, row-there}
 use Rattle.tree.proofs.Places.{level-inside, box-inside}
 use Rattle.tree.proofs.Steps.{run-turn, run-one, look-leaf, look-inner, look-miss, look-more, run_more}
 use Rattle.tree.proofs.Limits.{root-near}
 use Rattle.tree.proofs.Table.{start-at, count_at}
-use Rattle.query.specs.Code.Walking.{Ground, tiles_in, meets_carried, seen, visited, walked, children_walked, Grounded, Row, Box, ChildRow}
+use Rattle.query.specs.Code.Walking.{Ground, tiles_in, meets_carried, seen, visited, walked, children_walked, Row, Box, ChildRow}
 
 -- a box that meets, once it is looked at
 pub record Met (g : Ground) (j k : ℕ) (s : State) (count : ℕ) : Type 0 where

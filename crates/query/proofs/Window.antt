@@ -1,7 +1,7 @@
 -- The window as the walk carries it: one that passed its check has the description's kinds and no NaN, so what is carried has none either. A box
 -- meets what is carried where it meets the window, and as many of its dimensions are read.
 -- Assumes nothing.
-use mathlib.Core.Path.{◌≡◌, sym, ap, ◌∙◌}
+use mathlib.Core.Path.{◌≡◌, sym, ◌∙◌}
 use mathlib.Core.Bool.{Bool, true, false, ◌&&◌}
 use mathlib.Core.List.{List}
 use Prim.Native.Nat.{ℕ, ◌+◌, ◌*◌, ◌<◌}

@@ -1,21 +1,19 @@
 -- A box is without a fault and inside another where each of its dimensions is sound and inside the other's; where that fails, either the ranges
 -- have a fault or the box is not inside. And a row of boxes, as a loop goes through it: the boxes before a place said nothing.
 -- Assumes nothing.
-use mathlib.Core.Path.{◌≡◌, refl, sym, ap, ◌∙◌}
-use mathlib.Core.Bool.{Bool, true, false, ◌&&◌, true≢false}
+use mathlib.Core.Path.{◌≡◌, refl, sym, ◌∙◌}
+use mathlib.Core.Bool.{Bool, true, false, true≢false}
 use mathlib.Core.List.{List}
-use mathlib.Core.Logic.{◌↔◌}
 use Prim.Native.Nat.{ℕ, suc, ◌+◌, ◌-◌, ◌*◌, ◌/◌, ◌≤◌, ◌<◌}
 use native.Mathlib.Nat.{le-div_iff_mul-le, div-lt_iff_lt-mul, div-zero, suc-mul}
 use native.Mathlib.Decide.{dec_lt}
-use native.Mathlib.Numerals.{add-one}
 use native.Mathlib.Omega.{arith}
 use lib.ListN.{length, take, drop}
 use Rattle.answers.specs.Refusals.{none, refusal}
 use Rattle.answers.specs.Checks.{otherwise, each}
 use Rattle.answers.specs.declared.Refusal.{Refusal}
 use Rattle.answers.proofs.Runs.{Each, over-start}
-use Rattle.answers.proofs.Checks.{go_on, halt, each-clear, all-clear, none_left, past-left, stop-left}
+use Rattle.answers.proofs.Checks.{halt, each-clear, all-clear, none_left, past-left, stop-left}
 use Rattle.description.specs.declared.Dimension.{Dimension}
 use Rattle.description.specs.Description.{kind_at, side_start}
 use Rattle.description.proofs.Tests.{both}

@@ -6,16 +6,16 @@
 use mathlib.Core.Path.{◌≡◌, refl, ap, sym, ◌∙◌}
 use mathlib.Core.Bool.{Bool, true, false, cond}
 use mathlib.Core.List.{List, [], ◌∷◌}
-use Prim.Native.Nat.{ℕ, ◌+◌, ◌-◌, ◌*◌, ◌≤◌, ◌<◌}
+use Prim.Native.Nat.{ℕ, ◌-◌, ◌*◌, ◌≤◌, ◌<◌}
 use native.Mathlib.Omega.{arith}
 use lib.Dec.{eqb}
 use lib.ListN.{length, get_or}
-use borrow.Author.Tests.{eqb-true, eqb-false, not-false}
+use borrow.Author.Tests.{eqb-true, not-false}
 use Rattle.answers.specs.Refusals.{none}
 use Rattle.answers.specs.declared.Refusal.{Refusal}
-use Rattle.answers.specs.Checks.{otherwise, first, each}
+use Rattle.answers.specs.Checks.{otherwise, first}
 use Rattle.answers.proofs.Runs.{over-ext}
-use Rattle.answers.proofs.Checks.{go_on, halt, regroup, both-clear, clear, check-clear, last, each_none}
+use Rattle.answers.proofs.Checks.{regroup, both-clear, clear, check-clear, last, each_none}
 use Rattle.description.specs.declared.Description.{Description}
 use Rattle.description.specs.Description.{sides_of, bytes_of_box}
 use Rattle.description.specs.Limits.{least_tiles, most_tiles, least_fanout, most_fanout, Sizes}
@@ -23,11 +23,11 @@ use Rattle.description.proofs.Limits.{within, not-outside}
 use Rattle.description.proofs.Sides.{start-most}
 use Rattle.tree.specs.declared.Shape.{Shape}
 use Rattle.tree.specs.Shape.{height, levels, level_start, body_bytes, most_box_bytes, outside_limits, shape_of}
-use Rattle.tree.proofs.Limits.{sizes, levels-most, boxes-small}
+use Rattle.tree.proofs.Limits.{sizes, boxes-small}
 use Rattle.tree.proofs.Table.{shape-outside, shape-levels, shape-boxes, shape-bytes, start-at, count_at}
 use Rattle.rtree.specs.Body.{fanout_of, levels_of, front_refusal, size_refusal, shape_refusal}
 use Rattle.rtree.specs.Body.{count_refusal, stored_count, counts_refusal}
-use Rattle.rtree.specs.Code.Shaped.{tiles_refusal, shaped_refusal, table_count_refusal, table_refusal}
+use Rattle.rtree.specs.Code.Shaped.{tiles_refusal, shaped_refusal, table_refusal}
 
 -- whatever the kinds are
 pub box-bytes-most : (d : Description) → bytes_of_box d ≤ most_box_bytes

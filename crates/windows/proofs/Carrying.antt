@@ -1,7 +1,7 @@
 -- What is carried of a box: the ends of each side come back as they were put there, and fit their kind.
 -- Assumes nothing.
 use mathlib.Core.Path.{◌≡◌, refl, subst}
-use mathlib.Core.List.{List, [], ◌∷◌}
+use mathlib.Core.List.{[], ◌∷◌}
 use Prim.Native.Nat.{ℕ, zero, suc, ◌+◌, ◌*◌, ◌^◌, ◌≤◌, ◌<◌}
 use native.Mathlib.Nat.{mod-lt, one-le-pow}
 use native.Mathlib.Decide.{dec_lt}

@@ -1,22 +1,15 @@
 -- `lists::check_list` meets its contract: the definition's checks in their order, the first before the others. A width
 -- is below 2^32 and n at most the most tiles, so that their product fits. Assumes nothing.
 use mathlib.Core.Path.{◌≡◌, sym, ◌∙◌}
-use mathlib.Core.Bool.{false, not}
-use Prim.Native.Nat.{ℕ, ◌+◌, ◌*◌, ◌^◌, ◌≤◌, ◌<◌}
-use native.Mathlib.Nat.{mul-le-mul}
+use mathlib.Core.Bool.{not}
 use native.Mathlib.Omega.{arith}
-use lib.Dec.{ltb, eqb}
-use mir.Syntax.{w32}
-use mir.Val.{Fits}
-use borrow.Author.Rules.{rules}
-use borrow.Author.Tests.{ltb-false}
+use lib.Dec.{eqb}
 use Rattle.answers.specs.Refusals.{count}
 use Rattle.answers.specs.Checks.{check}
 use Rattle.answers.proofs.Checks.{stop-check, join-next}
 use Rattle.order.specs.Little.{little}
-use Rattle.description.specs.Limits.{least_tiles, most_tiles, outside}
 use Rattle.lists.specs.Lists.{list_refusal_by}
-use Rattle.lists.proofs.Header.{neither, others-joined}
+use Rattle.lists.proofs.Header.{others-joined}
 use Rattle.lists.proofs.check_list.Goals as goal
 
 pub returns-then-tiles_outside : goal.returns-then-tiles_outside

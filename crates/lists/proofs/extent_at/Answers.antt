@@ -1,5 +1,4 @@
 -- `lists::extent_at` meets its contract: the definition, test by test. Assumes nothing.
-use borrow.Author.Rules.{rules}
 use borrow.Author.Tests.{lt-ltb, le-ltb}
 use Rattle.lists.specs.Offsets.{offset_of, extent_of}
 use Rattle.lists.proofs.extent_at.Goals as goal

@@ -1,6 +1,5 @@
 -- `order::eight` meets its contract: the bytes in two parts of four. Assumes nothing.
 use native.Mathlib.Omega.{arith}
-use borrow.Author.Rules.{rules}
 use Rattle.order.proofs.Little.{little-split}
 use Rattle.order.proofs.eight.Goals as goal
 

@@ -1,7 +1,6 @@
 -- `order::four` meets its contract: the definition of `little`, written out. Assumes nothing.
 use native.Mathlib.Nat.{add_assoc}
 use native.Mathlib.Omega.{arith}
-use borrow.Author.Rules.{rules}
 use Rattle.order.specs.Little.{little}
 use Rattle.order.proofs.four.Goals as goal
 

@@ -1,6 +1,5 @@
 -- `order::pair32_at` meets its contract: the law of `Pairs.antt` at its number of bytes. Assumes nothing.
 use native.Mathlib.Omega.{arith}
-use borrow.Author.Rules.{rules}
 use Rattle.order.proofs.Pairs.{there, not_there}
 use Rattle.order.proofs.pair32_at.Goals as goal
 

@@ -1,9 +1,8 @@
 -- `order::put_u64` meets its contract: its lower four bytes and its upper four, where all eight fit. Assumes nothing.
 use Prim.Native.Nat.{◌+◌, ◌%◌, ◌^◌}
-use mathlib.Core.Path.{◌≡◌, ◌∙◌}
+use mathlib.Core.Path.{◌∙◌}
 use native.Mathlib.Omega.{arith}
-use borrow.Author.Rules.{rules}
-use borrow.Author.Tests.{le-leb, lt-leb}
+use borrow.Author.Tests.{le-leb}
 use lib.ListN.{length}
 use Rattle.answers.proofs.Laid.{sets-append}
 use Rattle.order.proofs.Bytes.{bytes-length}

@@ -1,18 +1,12 @@
 -- `order::rest` meets its contract. The loop goes from the last byte back to the place: what is made so far is the
 -- number of the bytes from i on, as many as are left of eight. Assumes nothing.
-use Prim.Native.Nat.{ℕ, suc, ◌+◌, ◌-◌, ◌*◌, ◌^◌, ◌≤◌, ◌<◌}
-use mathlib.Core.Path.{◌≡◌, sym, ◌∙◌}
-use mathlib.Core.List.{List}
-use native.Mathlib.Nat.{le_refl, lt_of_lt_of_le, pow-le-pow_right}
+use Prim.Native.Nat.{◌-◌}
+use mathlib.Core.Path.{sym}
+use native.Mathlib.Nat.{le_refl}
 use native.Mathlib.Omega.{arith}
-use lib.Dec.{lit<}
-use lib.ListN.{length, get_or}
-use mir.Syntax.{w8}
-use mir.Val.{Fits}
-use borrow.Author.Rules.{rules}
-use Rattle.order.specs.Little.{little}
-use Rattle.order.proofs.Little.{little-lt, little-past}
-use Rattle.order.proofs.rest.Invariants.{tail, one_more, seven, all}
+use lib.ListN.{length}
+use Rattle.order.proofs.Little.{little-past}
+use Rattle.order.proofs.rest.Invariants.{one_more, seven}
 use Rattle.order.proofs.rest.Goals as goal
 
 pub loop-i-init : goal.loop-i-init

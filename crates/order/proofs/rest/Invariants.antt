@@ -1,17 +1,16 @@
 -- `order::rest` meets its contract. The loop goes from the last byte back to the place: what is made so far is the
 -- number of the bytes from i on, as many as are left of eight. Assumes nothing.
 use Prim.Native.Nat.{ℕ, suc, ◌+◌, ◌-◌, ◌*◌, ◌^◌, ◌≤◌, ◌<◌}
-use mathlib.Core.Path.{◌≡◌, sym, ◌∙◌}
+use mathlib.Core.Path.{◌≡◌}
 use mathlib.Core.List.{List}
-use native.Mathlib.Nat.{le_refl, lt_of_lt_of_le, pow-le-pow_right}
+use native.Mathlib.Nat.{lt_of_lt_of_le, pow-le-pow_right}
 use native.Mathlib.Omega.{arith}
 use lib.Dec.{lit<}
 use lib.ListN.{length, get_or}
 use mir.Syntax.{w8}
 use mir.Val.{Fits}
-use borrow.Author.Rules.{rules}
 use Rattle.order.specs.Little.{little}
-use Rattle.order.proofs.Little.{little-lt, little-past}
+use Rattle.order.proofs.Little.{little-lt}
 use Rattle.order.proofs.rest.Given as goal
 
 module _ (s : List ℕ) (at i : ℕ) where

@@ -1,13 +1,11 @@
 -- `order::store_all` meets its contract. The invariant: the buffer holds the first i bytes at their place. The measure is
 -- what is left of them.
 -- Assumes nothing.
-use Prim.Native.Nat.{ℕ, ◌+◌, ◌-◌, ◌≤◌}
+use Prim.Native.Nat.{ℕ, ◌+◌}
 use mathlib.Core.List.{List}
-use mathlib.Core.Path.{◌≡◌, refl, ap, ◌∙◌}
+use mathlib.Core.Path.{ap, ◌∙◌}
 use native.Mathlib.Omega.{arith}
-use borrow.Author.Rules.{rules}
-use lib.ListN.{length, get_or, take, set, length-set}
-use lib.Seq.{sets, take_all}
+use lib.ListN.{get_or, set, length-set}
 use Rattle.order.proofs.Stores.{copy-next}
 use Rattle.order.proofs.store_all.Goals as goal
 

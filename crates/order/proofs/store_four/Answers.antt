@@ -2,9 +2,6 @@
 use Prim.Native.Nat.{suc, ◌+◌}
 use mathlib.Core.Path.{◌≡◌}
 use native.Mathlib.Omega.{arith}
-use borrow.Author.Rules.{rules}
-use lib.ListN.{length, length-set}
-use lib.Seq.{sets}
 use Rattle.order.specs.Little.{bytes_of}
 use Rattle.order.proofs.store_four.Goals as goal
 

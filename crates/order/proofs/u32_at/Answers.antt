@@ -1,7 +1,6 @@
 -- `order::u32_at` meets its contract: where fewer than four bytes are left, eight are as good as four. Assumes nothing.
 use mathlib.Core.Path.{sym, ◌∙◌}
 use native.Mathlib.Omega.{arith}
-use borrow.Author.Rules.{rules}
 use Rattle.order.proofs.Little.{four-fit, little-past, little-ends}
 use Rattle.order.proofs.u32_at.Goals as goal
 

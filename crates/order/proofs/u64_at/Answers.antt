@@ -1,7 +1,6 @@
 -- `order::u64_at` meets its contract: past the end there is nothing. Assumes nothing.
 use mathlib.Core.Path.{sym}
 use native.Mathlib.Omega.{arith}
-use borrow.Author.Rules.{rules}
 use Rattle.order.proofs.Little.{little-past}
 use Rattle.order.proofs.u64_at.Goals as goal
 

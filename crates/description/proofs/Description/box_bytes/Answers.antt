@@ -1,7 +1,7 @@
 -- `Description::box_bytes` meets its contract. The loop's invariant: the sum so far is where dimension i starts.
 -- Assumes nothing.
-use Prim.Native.Nat.{ℕ, ◌+◌, ◌-◌, ◌≤◌}
-use mathlib.Core.Path.{◌≡◌, sym, ap, ◌∙◌}
+use Prim.Native.Nat.{ℕ, ◌+◌}
+use mathlib.Core.Path.{sym, ap, ◌∙◌}
 use native.Mathlib.Omega.{arith}
 use borrow.Author.Rules.{rules}
 use Rattle.description.specs.Description.{kind_at, side_start, bytes_of_box}

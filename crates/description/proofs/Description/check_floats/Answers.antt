@@ -1,5 +1,4 @@
 -- `Description::check_floats` meets its contract: it is the check of the kinds. Assumes nothing.
-use borrow.Author.Rules.{rules}
 use Rattle.description.specs.Description.{float_refusal}
 use Rattle.description.proofs.Description.check_floats.Goals as goal
 

@@ -1,19 +1,14 @@
 -- `Description::check_kinds` meets its contract. The loop's invariant: what is told so far is what the dimensions before i
 -- say. Assumes nothing.
-use mathlib.Core.Path.{◌≡◌, sym, ap, ◌∙◌}
+use mathlib.Core.Path.{◌≡◌}
 use mathlib.Core.Bool.{Bool}
 use mathlib.Core.List.{List}
-use Prim.Native.Nat.{ℕ, ◌+◌, ◌-◌, ◌≤◌, ◌<◌}
-use native.Mathlib.Nat.{zero-add}
-use native.Mathlib.Omega.{arith}
-use borrow.Author.Rules.{rules}
-use Rattle.answers.specs.Runs.{over}
-use Rattle.answers.specs.Checks.{check, otherwise, first, each}
+use Prim.Native.Nat.{ℕ, ◌-◌, ◌≤◌}
+use Rattle.answers.specs.Checks.{check, each}
 use Rattle.answers.specs.declared.Refusal.{Refusal}
-use Rattle.answers.proofs.Checks.{none_left, join-next, last, check-none, each-add}
 use Rattle.description.specs.declared.Dimension.{Dimension}
 use Rattle.description.specs.Kinds.{float_of}
-use Rattle.description.specs.Description.{kind_at, sides_of}
+use Rattle.description.specs.Description.{kind_at}
 use Rattle.description.proofs.Description.check_kinds.Given as goal
 
 abbrev pub said : Bool → ℕ → List Dimension → ℕ → Refusal

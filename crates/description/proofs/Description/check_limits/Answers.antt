@@ -1,7 +1,6 @@
 -- `Description::check_limits` meets its contract: it goes through the definition's checks in their order. Assumes nothing.
 use mathlib.Core.Path.{sym, ◌∙◌}
 use native.Mathlib.Omega.{arith}
-use borrow.Author.Rules.{rules}
 use Rattle.answers.proofs.Checks.{past-check, stop-check, ended}
 use Rattle.description.specs.Description.{limits_refusal}
 use Rattle.description.proofs.Description.check_limits.Goals as goal

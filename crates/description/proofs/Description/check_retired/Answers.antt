@@ -1,5 +1,4 @@
 -- `Description::check_retired` meets its contract: it is the check of the kinds. Assumes nothing.
-use borrow.Author.Rules.{rules}
 use Rattle.description.specs.Description.{retired_refusal}
 use Rattle.description.proofs.Description.check_retired.Goals as goal
 

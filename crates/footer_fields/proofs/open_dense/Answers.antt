@@ -1,0 +1,10 @@
+-- `footer_fields::open_dense` meets its contract, as `open` does. Assumes nothing.
+use mathlib.Core.Path.{◌∙◌}
+use Rattle.footer_fields.proofs.Answers.{whole, large}
+use Rattle.footer_fields.proofs.open_dense.Goals as goal
+
+pub fields_of-requires : goal.fields_of-requires
+fields_of-requires c = whole _ _ _ _ _ c.check_dense.ensures
+
+pub returns : goal.returns
+returns c = c.fields_of.ensures ∙ large _ _ _ _ _ c.check_dense.ensures
