@@ -4,4 +4,3 @@ pub mod Windows
 pub mod Run
 pub mod Rules
 mod Step
-mod Lent

@@ -67,6 +67,7 @@ pub fn query_32(
 }
 
 // 22 where the answer run is not as long as the query run.
+#[tactic(auto, unfolding(crate::specs::Batch::batch_of))]
 pub fn check_runs(windows: usize, answers: usize) -> Batch
     ensures { result ≡ batch_of windows answers }
 {

@@ -13,6 +13,7 @@ use description::Kind;
 use ranges::Range;
 
 // Inside or equal. Of another kind it is not.
+#[tactic(auto, unfolding(ranges::specs::Ranges::ends_of, ranges::specs::Ranges::inside))]
 pub fn inside(range: Range, outer: Range) -> bool
     ensures { result ≡ inside (ends_of range) (ends_of outer) }
 {
@@ -41,6 +42,7 @@ pub fn inside(range: Range, outer: Range) -> bool
 }
 
 // Edges included. A range with NaN meets nothing, nor does one of another kind.
+#[tactic(auto, unfolding(ranges::specs::Ranges::ends_of, ranges::specs::Ranges::meets))]
 pub fn meets(range: Range, window: Range) -> bool
     ensures { result ≡ meets (ends_of range) (ends_of window) }
 {
@@ -69,6 +71,7 @@ pub fn meets(range: Range, window: Range) -> bool
 }
 
 // Is a at most b, and c at most d?
+#[tactic(auto, unfolding(description::specs::Kinds::at_most, description::specs::Kinds::is_nan, description::specs::Kinds::key, order::specs::Key::signed_at_most))]
 fn i32s_in_order(a: i32, b: i32, c: i32, d: i32) -> bool
     ensures { result ≡ (at_most (ordered Kind.Int32) (of_z w32 a) (of_z w32 b)
         && at_most (ordered Kind.Int32) (of_z w32 c) (of_z w32 d)) }
@@ -76,6 +79,7 @@ fn i32s_in_order(a: i32, b: i32, c: i32, d: i32) -> bool
     ints::i32_at_most(a, b) && ints::i32_at_most(c, d)
 }
 
+#[tactic(auto, unfolding(description::specs::Kinds::at_most, description::specs::Kinds::is_nan, description::specs::Kinds::key, order::specs::Key::signed_at_most))]
 fn i64s_in_order(a: i64, b: i64, c: i64, d: i64) -> bool
     ensures { result ≡ (at_most (ordered Kind.Int64) (of_z w64 a) (of_z w64 b)
         && at_most (ordered Kind.Int64) (of_z w64 c) (of_z w64 d)) }
@@ -83,6 +87,7 @@ fn i64s_in_order(a: i64, b: i64, c: i64, d: i64) -> bool
     ints::i64_at_most(a, b) && ints::i64_at_most(c, d)
 }
 
+#[tactic(auto, unfolding(description::specs::Kinds::at_most, description::specs::Kinds::is_nan, description::specs::Kinds::key, order::specs::Key::float_at_most))]
 fn f32s_in_order(a: f32, b: f32, c: f32, d: f32) -> bool
     ensures { result ≡ (at_most (ordered Kind.Float32) (to_bits binary32 a) (to_bits binary32 b)
         && at_most (ordered Kind.Float32) (to_bits binary32 c) (to_bits binary32 d)) }
@@ -90,6 +95,7 @@ fn f32s_in_order(a: f32, b: f32, c: f32, d: f32) -> bool
     floats::f32_at_most(a, b) && floats::f32_at_most(c, d)
 }
 
+#[tactic(auto, unfolding(description::specs::Kinds::at_most, description::specs::Kinds::is_nan, description::specs::Kinds::key, order::specs::Key::float_at_most))]
 fn f64s_in_order(a: f64, b: f64, c: f64, d: f64) -> bool
     ensures { result ≡ (at_most (ordered Kind.Float64) (to_bits binary64 a) (to_bits binary64 b)
         && at_most (ordered Kind.Float64) (to_bits binary64 c) (to_bits binary64 d)) }
@@ -97,6 +103,7 @@ fn f64s_in_order(a: f64, b: f64, c: f64, d: f64) -> bool
     floats::f64_at_most(a, b) && floats::f64_at_most(c, d)
 }
 
+#[tactic(auto, unfolding(description::specs::Kinds::at_most, description::specs::Kinds::is_nan, description::specs::Kinds::key))]
 fn u64s_in_order(a: u64, b: u64, c: u64, d: u64) -> bool
     ensures { result ≡ (at_most (ordered Kind.Uint64) a b && at_most (ordered Kind.Uint64) c d) }
 {

@@ -3,13 +3,13 @@
 -- the state stands at the next box, or at the count of the level below (`boxes-taken`).
 -- Assumes nothing.
 use mathlib.Core.Path.{◌≡◌, refl, ap, sym, ◌∙◌}
-use mathlib.Core.Bool.{Bool, true, false, cond}
-use mathlib.Core.List.{List, ◌++◌}
-use Prim.Native.Nat.{ℕ, zero, suc, ◌+◌, ◌-◌, ◌*◌, ◌≤◌, ◌<◌}
+use mathlib.Core.Bool.{false}
+use mathlib.Core.List.{List}
+use Prim.Native.Nat.{ℕ, suc, ◌+◌, ◌-◌, ◌*◌, ◌≤◌, ◌<◌}
 use native.Mathlib.Nat.{mul-le-mul_right}
 use native.Mathlib.Decide.{dec_le}
 use native.Mathlib.Omega.{arith}
-use lib.Dec.{eqb, ltb}
+use lib.Dec.{eqb}
 use lib.ListN.{length, take, drop}
 use lib.Seq.{take-add, drop-drop}
 use borrow.Author.Tests.{eq-eqb, ne_eqb, lt-ltb, le-ltb}
@@ -19,15 +19,14 @@ use Rattle.answers.specs.declared.Refusal.{Refusal}
 use Rattle.answers.proofs.Checks.{regroup}
 use Rattle.description.specs.declared.Description.{Description}
 use Rattle.description.specs.Description.{bytes_of_box}
-use Rattle.tree.specs.Shape.{boxes, boxes_above, height, level_start}
+use Rattle.tree.specs.Shape.{boxes, height, level_start}
 use Rattle.tree.proofs.Root.{height-one}
 use Rattle.tree.proofs.Places.{start-root, start-down}
 use Rattle.footer.specs.Fields.{tiles_of, domain_bytes}
-use Rattle.rtree.specs.Body.{fanout_of, stored_count}
+use Rattle.rtree.specs.Body.{fanout_of}
 use Rattle.rtree.specs.Opening.{boxes_refusal}
 use Rattle.parts_state.specs.declared.Cursor.{Cursor}
 use Rattle.parts_state.specs.declared.Parts.{Parts}
-use Rattle.parts_state.specs.Parts.{inner_bytes}
 use Rattle.parts_state.specs.Code.Rest.{box_check, boxes_from}
 use Rattle.parts_state.specs.Code.State.{InTree, Going, Holds}
 use Rattle.parts.specs.Code.Runs.{run_check}

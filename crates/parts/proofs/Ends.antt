@@ -3,20 +3,17 @@
 -- of a box, or the numbers of an accepted tree (`ends-fault`, `ends-accepted`).
 -- Assumes nothing.
 use mathlib.Core.Path.{◌≡◌, refl, ap, sym, ◌∙◌}
-use mathlib.Core.Bool.{Bool, true, false, cond}
 use mathlib.Core.List.{List}
-use Prim.Native.Nat.{ℕ, zero, suc, ◌+◌, ◌-◌, ◌*◌, ◌≤◌, ◌<◌, min}
+use Prim.Native.Nat.{ℕ, suc, ◌+◌, ◌-◌, ◌*◌, ◌≤◌, ◌<◌, min}
 use native.Mathlib.Nat.{mul-le-mul_right}
 use native.Mathlib.Decide.{dec_le}
 use native.Mathlib.Omega.{arith}
-use lib.Dec.{eqb}
 use lib.ListN.{length, take, drop}
 use borrow.Author.Tests.{eq-eqb, ne_eqb}
 use Rattle.answers.specs.Refusals as refusals
-use Rattle.answers.specs.Runs.{over}
-use Rattle.answers.specs.Checks.{otherwise, first}
+use Rattle.answers.specs.Checks.{otherwise}
 use Rattle.answers.specs.declared.Refusal.{Refusal}
-use Rattle.answers.proofs.Checks.{go_on, halt, both-clear}
+use Rattle.answers.proofs.Checks.{go_on}
 use Rattle.order.specs.Little.{little}
 use Rattle.order.proofs.Little.{little-take}
 use Rattle.description.specs.declared.Description.{Description}
@@ -24,19 +21,18 @@ use Rattle.description.specs.Description.{bytes_of_box}
 use Rattle.tree.specs.Shape.{boxes, height, levels, level_start, body_bytes, shape_of}
 use Rattle.tree.proofs.Places.{level-inside, start-root}
 use Rattle.footer.specs.Fields.{tiles_of, domain_bytes}
-use Rattle.rtree.specs.declared.Opened.{Opened}
 use Rattle.rtree.specs.Body.{fanout_of, levels_of, stored_count, shape_refusal}
 use Rattle.rtree.proofs.Passed.{box-bytes-most}
 use Rattle.rtree.specs.Opening.{boxes_refusal, body_refusal, refused_in, open_answer, open_answer_by}
 use Rattle.parts_state.specs.declared.Parts.{Parts}
 use Rattle.parts_state.specs.Parts.{inner_bytes, front_shown, shown_refusal, counts_shown, which_of, parts_answer}
-use Rattle.parts_state.specs.Code.State.{item_bytes, InTree, Going, Holds}
+use Rattle.parts_state.specs.Code.State.{InTree, Going, Holds}
 use Rattle.parts_state.proofs.Shown.{shown, say-shown, say-open, say-other, counts-none, front-none, front-short, front-alone}
 use Rattle.parts_state.proofs.Whole.{shown-shape}
 use Rattle.parts.specs.Code.Cursor.{onward, refused}
 use Rattle.parts.specs.Code.Steps.{inner_in}
 use Rattle.parts.proofs.Levels.{from_end, start-after}
-use Rattle.parts.proofs.Front.{front-code, footer-has, some_bytes, shown-counts}
+use Rattle.parts.proofs.Front.{front-code, footer-has, shown-counts}
 
 module _ {d : Description} {F : ℕ} {footer : List ℕ} {stated : ℕ} {body work : List ℕ} {s : Parts} {p : ℕ}
     (g : Going d F footer stated body work s p) (some-fanout : 0 < s.cursor.fanout) where

@@ -3,21 +3,21 @@
 -- good (`front-refused`), or the state stands at the root's count (`front-passed`); a count that is wrong is refused
 -- for good (`count-refused`), one that is right is passed by (`count-passed`).
 -- Assumes nothing.
-use mathlib.Core.Path.{◌≡◌, refl, ap, sym, ◌∙◌}
-use mathlib.Core.Bool.{Bool, true, false, cond}
+use mathlib.Core.Path.{◌≡◌, refl, sym, ◌∙◌}
+use mathlib.Core.Bool.{Bool, true, false}
 use mathlib.Core.List.{List}
 use Prim.Native.Nat.{ℕ, zero, suc, ◌+◌, ◌-◌, ◌*◌, ◌≤◌, ◌<◌, min}
-use native.Mathlib.Nat.{zero-add, mul-le-mul, mul-le-mul_left, mul-le-mul_right}
+use native.Mathlib.Nat.{mul-le-mul}
 use native.Mathlib.Decide.{dec_le}
 use native.Mathlib.Omega.{arith}
-use lib.Dec.{leb, eqb}
+use lib.Dec.{leb}
 use lib.ListN.{length, get_or, take, drop}
-use borrow.Author.Tests.{eq-eqb, ne_eqb, le-ltb, le-leb, leb-false, eqb-true, ltb-false, not-false}
+use borrow.Author.Tests.{eq-eqb, le-ltb, le-leb, leb-false, eqb-true, ltb-false, not-false}
 use Rattle.answers.specs.Refusals as refusals
 use Rattle.answers.specs.Runs.{over}
-use Rattle.answers.specs.Checks.{otherwise, first}
+use Rattle.answers.specs.Checks.{first}
 use Rattle.answers.specs.declared.Refusal.{Refusal}
-use Rattle.answers.proofs.Checks.{go_on, halt, clear, check-clear}
+use Rattle.answers.proofs.Checks.{halt, clear, check-clear}
 use Rattle.order.specs.Little.{little}
 use Rattle.order.proofs.Little.{little-part}
 use Rattle.description.specs.declared.Description.{Description}
@@ -30,14 +30,12 @@ use Rattle.tree.proofs.Limits.{root-near, boxes-small}
 use Rattle.tree.proofs.Places.{start-root, leaves-end}
 use Rattle.tree.proofs.Table.{shape-levels, shape-boxes, shape-bytes, count_at, count_most}
 use Rattle.footer.specs.Fields.{tiles_of, domain_bytes}
-use Rattle.footer.specs.Checks.{footer_refusal}
 use Rattle.footer.proofs.Passed.{Passed, passed}
 use Rattle.rtree.specs.Body.{fanout_of, levels_of, count_place, stored_count}
-use Rattle.rtree.specs.Opening.{refused_in}
 use Rattle.rtree.proofs.Passed.{box-bytes-most}
 use Rattle.parts_state.specs.declared.Parts.{Parts}
-use Rattle.parts_state.specs.Parts.{inner_bytes, front_shown, counts_shown, shown_refusal, which_of, parts_answer}
-use Rattle.parts_state.specs.Code.State.{Blank, InTree, Going, Holds}
+use Rattle.parts_state.specs.Parts.{inner_bytes, front_shown, counts_shown, shown_refusal, which_of}
+use Rattle.parts_state.specs.Code.State.{InTree, Going, Holds}
 use Rattle.parts_state.proofs.Shown.{shown, say-shown, front-have, front-none, count-stops}
 use Rattle.parts.specs.Code.Cursor.{onward, refused, fronted, counted}
 use Rattle.parts.specs.Code.Steps.{most_work, InRange, inner_in, Reads}

@@ -5,20 +5,20 @@
 -- Assumes nothing.
 use mathlib.Core.Path.{◌≡◌, refl, ap, sym, ◌∙◌}
 use mathlib.Core.Bool.{Bool, true, false, cond}
-use mathlib.Core.List.{List, ◌++◌}
-use Prim.Native.Nat.{ℕ, ◌+◌, ◌-◌, ◌*◌, ◌≤◌, ◌<◌, min}
+use mathlib.Core.List.{List}
+use Prim.Native.Nat.{ℕ, ◌+◌, ◌-◌, ◌≤◌, ◌<◌}
 use native.Mathlib.Decide.{dec_le}
 use native.Mathlib.Omega.{arith}
 use lib.Dec.{eqb}
 use lib.ListN.{length, take, drop, length-take}
-use lib.Seq.{sets, length-sets, take-add, drop-drop, take-take, take-length}
+use lib.Seq.{sets, length-sets, take-add, drop-drop}
 use borrow.Author.Tests.{eq-eqb, ne_eqb}
 use Rattle.description.specs.declared.Description.{Description}
 use Rattle.description.specs.Description.{bytes_of_box}
 use Rattle.rtree.proofs.Passed.{box-bytes-most}
 use Rattle.parts_state.specs.declared.Cursor.{Cursor}
 use Rattle.parts_state.specs.declared.Parts.{Parts}
-use Rattle.parts_state.specs.Code.State.{item_bytes, InTree, Blank, Going, Holds}
+use Rattle.parts_state.specs.Code.State.{item_bytes, InTree, Going}
 use Rattle.parts.specs.Code.Cursor.{with_cursor, keeping}
 use Rattle.parts.specs.Code.Steps.{InRange, Gathered, Reads, Some}
 use Rattle.parts.proofs.Lists.{read_first, read-there, upto}

@@ -3,22 +3,21 @@
 -- last leaf none (`from_end`). A level starts after the one above it has ended (`start-after`), and so in the work buffer
 -- (`own_below`, `own-fits`).
 -- Assumes nothing.
-use mathlib.Core.Path.{◌≡◌, refl, ap, sym, ◌∙◌}
-use mathlib.Core.Bool.{Bool, true, false, cond}
+use mathlib.Core.Path.{◌≡◌, refl, ap, sym}
+use mathlib.Core.Bool.{false}
 use mathlib.Core.List.{List}
 use Prim.Native.Nat.{ℕ, zero, suc, ◌+◌, ◌-◌, ◌*◌, ◌≤◌, ◌<◌}
-use native.Mathlib.Nat.{add-zero, zero-add, add-suc, add_assoc, mul-le-mul_left, mul-le-mul_right}
 use native.Mathlib.Omega.{arith}
 use lib.Dec.{eqb}
 use borrow.Author.Tests.{eq-eqb, ne_eqb}
 use Rattle.answers.specs.Refusals.{none}
-use Rattle.answers.specs.Runs.{over, sum}
+use Rattle.answers.specs.Runs.{over}
 use Rattle.answers.specs.Checks.{otherwise, each}
 use Rattle.answers.specs.declared.Refusal.{Refusal}
-use Rattle.answers.proofs.Runs.{over-ext, over_add}
-use Rattle.answers.proofs.Checks.{regroup, none_left, each-add}
+use Rattle.answers.proofs.Runs.{over-ext}
+use Rattle.answers.proofs.Checks.{regroup, each-add}
 use Rattle.description.specs.declared.Description.{Description}
-use Rattle.tree.specs.Shape.{boxes, boxes_above, height, levels, level_start, body_bytes}
+use Rattle.tree.specs.Shape.{boxes, boxes_above, height, level_start}
 use Rattle.tree.proofs.Root.{height-one}
 use Rattle.tree.proofs.Places.{start-down}
 use Rattle.rtree.specs.Body.{fanout_of}

@@ -4,12 +4,12 @@
 use mathlib.Core.Path.{◌≡◌, refl, ap, sym, ◌∙◌}
 use mathlib.Core.Bool.{Bool, true, false, cond}
 use mathlib.Core.List.{List, [], ◌∷◌, ◌++◌}
-use Prim.Native.Nat.{ℕ, zero, suc, ◌+◌, ◌-◌, ◌*◌, ◌≤◌, ◌<◌, min}
-use native.Mathlib.Nat.{zero-add, suc-add, add-suc}
+use Prim.Native.Nat.{ℕ, zero, suc, ◌+◌, ◌-◌, ◌≤◌, ◌<◌, min}
+use native.Mathlib.Nat.{zero-add, suc-add}
 use native.Mathlib.Omega.{arith}
 use lib.Dec.{leb}
 use lib.ListN.{length, take, drop, length-take, length-drop, length-append}
-use lib.Seq.{sets, sets-eq, length-sets, take_at, take-take, take-add, drop-drop, drop-append-le, take-append-le, take-nil, drop-nil}
+use lib.Seq.{sets, sets-eq, length-sets, take_at, take-take, drop-drop, drop-append-le, take-append-le, take-nil}
 use Rattle.answers.proofs.Joined.{part-of-part}
 use Rattle.parts.specs.Code.Steps.{Reads}
 

@@ -2,31 +2,27 @@
 -- parent (`piece-said`); a run of boxes whose parents stand in the work buffer is told of as opening tells of it
 -- (`run-said`), and so is the root (`root_said`).
 -- Assumes nothing.
-use mathlib.Core.Path.{◌≡◌, refl, ap, sym, ◌∙◌}
-use mathlib.Core.Bool.{Bool, true, false, cond}
+use mathlib.Core.Path.{◌≡◌, refl, ◌∙◌}
+use mathlib.Core.Bool.{false}
 use mathlib.Core.List.{List}
-use Prim.Native.Nat.{ℕ, zero, suc, ◌+◌, ◌-◌, ◌*◌, ◌/◌, ◌≤◌, ◌<◌}
-use native.Mathlib.Nat.{zero-add, add-zero, add_assoc, mul-le-mul_right, div-eq_of_lt-le, div-lt_iff_lt-mul, mul-div_cancel}
+use Prim.Native.Nat.{ℕ, suc, ◌+◌, ◌-◌, ◌*◌, ◌/◌, ◌≤◌, ◌<◌}
+use native.Mathlib.Nat.{zero-add, mul-le-mul_right, div-lt_iff_lt-mul}
 use native.Mathlib.Omega.{arith}
 use lib.Dec.{eqb}
-use lib.ListN.{length, take, drop, length-take, length-drop}
-use lib.Seq.{take_all, drop-drop}
+use lib.ListN.{length, take, drop}
 use borrow.Author.Tests.{eq-eqb, ne_eqb}
-use Rattle.answers.specs.Refusals.{refusal, none, outside_parent, outside_domain}
+use Rattle.answers.specs.Refusals.{none, outside_parent, outside_domain}
 use Rattle.answers.specs.Runs.{over}
 use Rattle.answers.specs.Checks.{otherwise, each, moved}
-use Rattle.answers.specs.declared.Refusal.{Refusal}
 use Rattle.answers.proofs.Runs.{over-ext, over-map}
 use Rattle.answers.proofs.Moved.{moved-otherwise}
 use Rattle.description.specs.declared.Description.{Description}
-use Rattle.description.specs.Description.{sides_of, side_start, bytes_of_box}
-use Rattle.boxes.specs.Boxes.{box_refusal}
-use Rattle.rows.specs.Code.Row.{row_box, row_refusal}
+use Rattle.description.specs.Description.{sides_of, bytes_of_box}
+use Rattle.rows.specs.Code.Row.{row_refusal}
 use Rattle.tree.specs.Shape.{up, boxes, height, level_start}
 use Rattle.tree.proofs.Counts.{up-enough}
-use Rattle.tree.proofs.Root.{height-one}
 use Rattle.tree.proofs.Places.{start-root}
-use Rattle.rtree.specs.Body.{fanout_of, place_of, box_at}
+use Rattle.rtree.specs.Body.{fanout_of}
 use Rattle.rtree.specs.Opening.{root_refusal, inner_refusal}
 use Rattle.opening.specs.Code.Stored.{run_refusal, Run}
 use Rattle.opening.proofs.Rows.{row-said, box-moved, each_from}

@@ -1,15 +1,15 @@
 -- The plan of a list that is checked: all that is said of a plan holds of an accepted list's, which answers the same
 -- with the check and without; its bytes are at most S, so that 64 bits hold them.
 -- Assumes nothing.
-use Rattle.std.proofs.Common.{◌≡◌, ℕ, ◌+◌, ◌-◌, ◌%◌, ◌^◌, ◌<◌, ◌≤◌, Bool, List, [], ◌∷◌, refl, arith}
+use Rattle.std.proofs.Common.{◌≡◌, ℕ, ◌+◌, ◌-◌, ◌%◌, ◌^◌, ◌<◌, ◌≤◌, Bool, List, [], ◌∷◌, arith}
 use native.Mathlib.Decide.{dec_lt}
 use Rattle.lists.specs.Offsets.{offsets_refusal, EndToEnd, offset_of, extent_of}
 use Rattle.lists.specs.VarOffsets.{var_offsets_refusal}
 use Rattle.entries.proofs.Extents.{extents, var-extents}
 use Rattle.plan.specs.declared.Range.{Range}
-use Rattle.plan.specs.Plan.{occurs, planned, total, tile_bytes, read_ranges}
+use Rattle.plan.specs.Plan.{occurs, total, tile_bytes, read_ranges}
 use Rattle.plan.specs.Plan.{plan_answer, plan_output, var_plan_answer, var_plan_output, plan_at, output_at}
-use Rattle.plan.specs.Laws.{All, Apart, Tiles, Edges, Plan}
+use Rattle.plan.specs.Laws.{All, Apart, Edges, Plan}
 use Rattle.plan.proofs.Laws.{read-plan, list-tiles}
 
 -- ---- ranges that lie apart and end by S have no more bytes than that

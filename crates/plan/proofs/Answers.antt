@@ -7,7 +7,6 @@ use Rattle.answers.specs.Refusals.{refusal, none, work}
 use Rattle.answers.specs.declared.Refusal.{Refusal}
 use Rattle.plan.specs.declared.Progress.{Progress}
 use Rattle.plan.specs.declared.Written.{Written}
-use Rattle.plan.specs.declared.ReadPlan.{ReadPlan}
 use Rattle.plan.specs.Plan.{occurs, how_many, tile_bytes, plan_refusal, plan_after, output_after}
 use Rattle.plan.specs.Code.Marks.{marked}
 use Rattle.plan.specs.Code.Progress.{Closed, Scanned}

@@ -3,7 +3,7 @@
 use Rattle.std.proofs.Common.{◌≡◌, ℕ, zero, suc, List, [], ◌∷◌, refl}
 use Rattle.answers.specs.Runs.{over}
 use Rattle.plan.specs.declared.Range.{Range}
-use Rattle.plan.specs.Plan.{range, occurs, before, grouped, planned, words, different, how_many}
+use Rattle.plan.specs.Plan.{range, occurs, before, grouped, planned, words, different}
 
 tile : ℕ → Range
 tile zero = range 0 100

@@ -13,7 +13,7 @@ use Rattle.lists.specs.Offsets.{offset_of, extent_of, EndToEnd}
 use Rattle.plan.specs.declared.Range.{Range}
 use Rattle.plan.specs.Plan.{range, tile_bytes, occurs, solid, before, grouped, planned, read_ranges, total}
 use Rattle.plan.specs.Plan.{different}
-use Rattle.plan.specs.Laws.{times, All, Apart, gap, gaps, extents_of, Tiles}
+use Rattle.plan.specs.Laws.{times, All, Apart, gap, gaps, Tiles}
 use Rattle.plan.specs.Laws.{Named, Edges, Asked, Bridged, NoFurther, Plan}
 
 -- ---- a byte in a range, and in some range

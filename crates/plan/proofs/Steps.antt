@@ -10,7 +10,7 @@ use lib.Seq.{sets, length-sets, take-nil}
 use Rattle.answers.specs.Laid.{laid}
 use Rattle.answers.specs.Runs.{over, sum}
 use Rattle.answers.proofs.Laid.{sets-whole}
-use Rattle.answers.proofs.Runs.{over_done, over-left, over-start}
+use Rattle.answers.proofs.Runs.{over_done, over-left}
 use Rattle.description.proofs.Tests.{both}
 use Rattle.order.specs.Little.{little}
 use Rattle.order.proofs.Little.{little-lt}
@@ -21,7 +21,7 @@ use Rattle.plan.specs.declared.Progress.{Progress}
 use Rattle.plan.specs.declared.Written.{Written}
 use Rattle.plan.specs.Plan.{range, solid, before, grouped, words, total, planned, different}
 use Rattle.plan.specs.Code.Marks.{digit, marked, Skipped}
-use Rattle.plan.specs.Code.Progress.{Left, closed, ahead, Closed, Visited, Scanned}
+use Rattle.plan.specs.Code.Progress.{Left, ahead, Closed, Visited, Scanned}
 use Rattle.plan.proofs.Words.{Word, word-says, none_left, found_before, found-marked}
 use Rattle.plan.proofs.Words.{skipped-few, skipped-none, next_word}
 

@@ -1,7 +1,7 @@
 -- Eight bytes of a bitmap as one number: its digits are the marks of 64 tiles, and the zeros below its lowest digit
 -- that is set are tiles without a mark.
 -- Assumes nothing.
-use Rattle.std.proofs.Common.{◌≡◌, ℕ, zero, suc, ◌+◌, ◌-◌, ◌*◌, ◌/◌, ◌%◌, ◌^◌, ◌<◌, ◌≤◌, true, false, ◌&&◌, eqb, ltb, List, get_or, sym, refl, ap, ◌∙◌, lt_of_lt_of_le, add-one, one-add, arith, pow_mono, shr-shr, shr_lt, w8, Fits, ltb-false, ltb-true, le-ltb, lt-ltb, eq-eqb, eqb-true}
+use Rattle.std.proofs.Common.{◌≡◌, ℕ, zero, suc, ◌+◌, ◌-◌, ◌*◌, ◌/◌, ◌%◌, ◌^◌, ◌<◌, ◌≤◌, true, false, ◌&&◌, ltb, List, get_or, sym, refl, ap, ◌∙◌, lt_of_lt_of_le, add-one, one-add, arith, pow_mono, shr-shr, shr_lt, w8, Fits, ltb-true, le-ltb, lt-ltb}
 use native.Mathlib.Nat.{div-eq_of_lt, zero-div}
 use native.Mathlib.Decide.{dec_lt}
 use lib.Count.{count_trailing_zeros, under}

@@ -1,14 +1,13 @@
 -- What is known of accepted mins and maxes of a fixed kind? No value is a NaN, and each min is at most its max in the
 -- kind's order.
 -- Assumes nothing.
-use mathlib.Core.Path.{◌≡◌, refl, sym, ap, ◌∙◌}
+use mathlib.Core.Path.{◌≡◌, sym, ap, ◌∙◌}
+use mathlib.Core.Logic.{◌⊎◌, inl, inr}
 use mathlib.Core.Bool.{Bool, true, false, not, cond}
-use mathlib.Core.List.{List, [], ◌∷◌}
+use mathlib.Core.List.{List}
 use Prim.Native.Nat.{ℕ, ◌+◌, ◌*◌, ◌^◌, ◌≤◌, ◌<◌}
 use native.Mathlib.Nat.{one-le-pow}
 use native.Mathlib.Omega.{arith}
-use types.Run.{OneOf, miss}
-use denote.Enum.Declared.{tag_of}
 use denote.Floats.{is_true}
 use lib.Dec.{ltb, eqb}
 use lib.ListN.{length, get_or}
@@ -22,16 +21,14 @@ use Rattle.answers.proofs.Checks.{past, stop, clear, check-clear, check-none, ea
 use Rattle.order.specs.Key.{float_at_most}
 use Rattle.order.proofs.Little.{little-lt}
 use Rattle.order.proofs.Floats.{le-of-bits, le-of-floats}
-use Rattle.description.specs.contracts.Kind.{the_type}
 use Rattle.description.specs.declared.Kind.{Kind}
-use Rattle.description.specs.declared.Kind.TheVariants.{Int32, Int64, Float32, Float64, Uint64}
+use Rattle.description.specs.declared.Kind.TheVariants.{Int32, Int64, Uint64}
 use Rattle.description.specs.Kinds.{end_bytes, is_nan, key, ordered, at_most}
 use Rattle.description.proofs.Patterns.{at-most-says, at-most-when}
 use Rattle.tile_metadata.specs.Bodies.{buffer_size, layout_refusal, value_of}
 use Rattle.tile_metadata.proofs.Bodies.{Laid, laid, both-accepted}
 use Rattle.tile_metadata.proofs.Turns.{values-keep, none-break}
 use Rattle.tile_metadata.proofs.Asked.{no_value}
-use Rattle.tile_values.specs.declared.Bounds.{Bounds}
 use Rattle.tile_values.specs.Values.{pattern, fixed_refusal, nan_breaks, order_breaks, values_refusal, min_above}
 use Rattle.tile_values.specs.Values.{maxes_refusal, pair_answer}
 use Rattle.tile_values.specs.Values.{pattern_of, bounds_of}
@@ -143,14 +140,12 @@ module _ (k : Kind) (n : ℕ) (mins maxes : List ℕ) where
             ∙ none-break (min_above k mins maxes) reversed (end_bytes k) n (λ i l. le-ltb _ _ (says i l).2),
       )
 
--- ---- a kind that isn't a float's, by its tag, has no NaN
-pub no_nan : (k : Kind) (p : ℕ) → OneOf (0 ∷ 1 ∷ 4 ∷ []) (tag_of the_type k) → false ≡ is_nan k p
+-- ---- a kind that isn't a float's has no NaN
+pub no_nan : (k : Kind) (p : ℕ) → (k ≡ Int32) ⊎ ((k ≡ Int64) ⊎ (k ≡ Uint64)) → false ≡ is_nan k p
 unfolding is_nan
-no_nan Int32 p h = refl
-no_nan Int64 p h = refl
-no_nan Float32 p h = absurd (miss (0 ∷ 1 ∷ 4 ∷ []) 2 tt h)
-no_nan Float64 p h = absurd (miss (0 ∷ 1 ∷ 4 ∷ []) 3 tt h)
-no_nan Uint64 p h = refl
+no_nan k p (inl e) = rw e
+no_nan k p (inr (inl e)) = rw e
+no_nan k p (inr (inr e)) = rw e
 
 -- ---- two floats read from their patterns compare as the patterns do
 pub read-order : (f : Format) (p q : ℕ) → float_at_most f (to_bits f (of_bits f p)) (to_bits f (of_bits f q)) ≡ float_at_most f p q

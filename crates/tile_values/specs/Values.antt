@@ -1,6 +1,6 @@
 -- When are the mins or the maxes of a field of a fixed kind refused, by themselves and together, and what is tile i's?
 -- Assumes nothing.
-use Rattle.std.specs.Prelude.{ℕ, ◌+◌, ◌*◌, Bool, not, List, [], ◌∷◌, ltb, eqb, length}
+use Rattle.std.specs.Prelude.{ℕ, Bool, not, List, [], ◌∷◌, ltb, eqb, length}
 use Rattle.answers.specs.Refusals.{bytes, not_aNumber, reversed}
 use Rattle.answers.specs.Checks.{check, first}
 use Rattle.answers.specs.declared.Refusal.{Refusal}

@@ -252,18 +252,29 @@ fn in_order(kind: Kind, n: usize, mins: &[u8], maxes: &[u8]) -> bool
         → at_most (ordered kind) (pattern kind mins.now i) (pattern kind maxes.now i) ≡ true }
 {
     match kind {
-        Kind::Int32 => order_between(Kind::Int32, 4, 0, n, mins, maxes),
-        Kind::Int64 => order_by_eights(Kind::Int64, n, mins, maxes),
-        Kind::Float32 => order_between(Kind::Float32, 4, 0, n, mins, maxes),
-        Kind::Float64 => order_between(Kind::Float64, 8, 0, n, mins, maxes),
-        Kind::Uint64 => order_by_eights(Kind::Uint64, n, mins, maxes),
+        Kind::Int32 => order_of(Kind::Int32, 4, n, mins, maxes),
+        Kind::Int64 => order_in_turn(Kind::Int64, n, mins, maxes),
+        Kind::Float32 => order_of(Kind::Float32, 4, n, mins, maxes),
+        Kind::Float64 => order_of(Kind::Float64, 8, n, mins, maxes),
+        Kind::Uint64 => order_in_turn(Kind::Uint64, n, mins, maxes),
     }
+}
+
+// The same of one kind and its width.
+fn order_of(kind: Kind, width: usize, n: usize, mins: &[u8], maxes: &[u8]) -> bool
+    requires width_value { width ≡ end_bytes kind }
+    requires n_in_bounds { 8 + end_bytes kind * n ≤ length mins.now }
+    requires n_in_bounds_2 { 8 + end_bytes kind * n ≤ length maxes.now }
+    ensures { result ≡ true → (i : ℕ) → i < n
+        → at_most (ordered kind) (pattern kind mins.now i) (pattern kind maxes.now i) ≡ true }
+{
+    order_between(kind, width, 0, n, mins, maxes)
 }
 
 // The same of values of eight bytes, eight tiles at a time, which the compiler writes out. A loop over single tiles
 // takes one cycle a tile where its code lies in one line of 64 bytes, and two where it lies in two; this one takes less
 // than one.
-fn order_by_eights(kind: Kind, n: usize, mins: &[u8], maxes: &[u8]) -> bool
+fn order_in_turn(kind: Kind, n: usize, mins: &[u8], maxes: &[u8]) -> bool
     requires value { 8 ≡ end_bytes kind }
     requires n_in_bounds { 8 + end_bytes kind * n ≤ length mins.now }
     requires n_in_bounds_2 { 8 + end_bytes kind * n ≤ length maxes.now }

@@ -1,7 +1,7 @@
 -- Worked cases, by computation from the definitions: tree A of the rules written from its leaves, both zeros in each
 -- order, and each refusal of the numbers.
 -- Assumes nothing.
-use Prim.Native.Nat.{ℕ, zero, suc}
+use Prim.Native.Nat.{ℕ}
 use mathlib.Core.Path.{◌≡◌, refl}
 use mathlib.Core.List.{List, [], ◌∷◌, ◌++◌}
 use lib.ListN.{length, replicate}

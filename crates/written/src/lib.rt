@@ -2,7 +2,6 @@
 // and their laws are here; the code that checks what is to be written is in `leaves`, the code that writes in `writer`.
 #![tactic(auto)]
 
-
 // What writing answers: a refusal, or the length of the body in bytes.
 #[derive(Clone, Copy)]
 pub struct Written {
