@@ -26,8 +26,7 @@ READING, GUIDES, MADE = "docs/READING.md", ["docs/READING.md", "CONTRIBUTING.md"
 TOKEN = re.compile(
     r"`(?P<name>[^`]+)`|\b(?P<file>(?:[a-z_]+/)?(?:[A-Z]\w*/)*[A-Z]\w*):(?!:)|(?P<clause>\bclauses?\b)|(?P<end>;)"
 )
-# A function whose proof goes through the code step by step, so that a change of code breaks the proof before any fact: its edit changes
-# the contract.
+# A function whose stored edit changes its contract and not its code.
 WALKED = {("opened", "ask")}
 FUNCTION = re.compile(r'^ *(?P<public>pub )?(?:extern "C" )?fn (?P<name>\w+)')
 
@@ -204,7 +203,7 @@ class Promises(unittest.TestCase):
         self.none(faults + [f"no row cites `{edit}`" for edit in stored - cited])
 
     def test_refused(self):
-        """Every public function stands in a row that has a stored edit of code; of the contract where its proof is WALKED."""
+        """Every public function stands in a row that has a stored edit of code; of the contract where it is WALKED."""
         covered = {"code": set(), "contract": set(), "definition": set()}
         for crates, _, cells in rows():
             cited = contract_faults(crates, cells.get(CONTRACT, ""), "proofs")[1]

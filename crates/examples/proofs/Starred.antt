@@ -3,11 +3,10 @@
 use Prim.Native.Nat.{ℕ, zero, suc, ◌/◌, ◌%◌}
 use mathlib.Core.Path.{◌≡◌, refl}
 use mathlib.Core.List.{List, [], ◌∷◌, ◌++◌}
-use lib.IntN.{ℤ, pos}
+use lib.IntN.{pos}
 use lib.ListN.{length, take, replicate}
 use Rattle.answers.specs.declared.Refusal.{Refusal}
 use Rattle.description.specs.declared.Description.{Description}
-use Rattle.description.specs.declared.Dimension.{Dimension}
 use Rattle.description.specs.declared.Kind.TheVariants.{Int32}
 use Rattle.ranges.specs.declared.Range.TheVariants.{I32}
 use Rattle.boxes.specs.declared.Window.{Window}

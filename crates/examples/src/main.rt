@@ -5,30 +5,57 @@
 // four kinds, 56 N, 64 C, 72, 80 and 88 further numbers, 96 the bytes of the first string.
 #![tactic(auto)]
 
-ghost use Rattle.std.specs.Prelude.{◌≤◌, ◌<◌};
+ghost use Rattle.std.specs.Prelude.{◌≤◌, ◌<◌, length};
 
 use boxes::{Side, Window};
 use description::{Description, Dimension, Kind};
 use footer::Footer;
-use libc::{STDIN_FILENO, STDOUT_FILENO};
 use lists::{Extent, TileOffsets};
 use query::Answer;
 use ranges::Range;
 use rtree::Opened;
+use std::io::Read;
 
-fn main() {
-    let mut space = [0u8; 655_360];
-    let n = io::read_full(STDIN_FILENO, &mut space);
-    cases(&space[0..n]);
+fn main(rt: HostRuntime) {
+    let mut space = input_buffer();
+    run(&rt, &mut space);
 }
 
-fn cases(all: &[u8]) {
+// The most bytes that are read.
+fn input_buffer() -> [u8; 655_360] {
+    [0u8; 655_360]
+}
+
+// The cases on standard input, as many bytes of them as the buffer takes.
+fn run(rt: &HostRuntime, space: &mut [u8]) {
+    let n = read_full(&mut rt.stdin(), space);
+    cases(rt, &space[0..n]);
+}
+
+// Reads until the buffer is full, the input ends or a read fails.
+fn read_full(input: &mut impl Read, buf: &mut [u8]) -> usize
+    ensures { result ≤ length buf.new }
+{
+    let mut done: usize = 0;
+    while done < buf.len() {
+        let Ok(n) = input.read(&mut buf[done..]) else {
+            break;
+        };
+        if n == 0 {
+            break;
+        }
+        done += n;
+    }
+    done
+}
+
+fn cases(rt: &impl Print, all: &[u8]) {
     let mut at: usize = 0;
     while at < all.len() {
         let rest = all.len() - at;
         let size = size_of(&all[at..], rest);
         let end = at + size;
-        ask(&all[at..end]);
+        ask(rt, &all[at..end]);
         at = end;
     }
 }
@@ -48,43 +75,42 @@ fn size_of(case: &[u8], rest: usize) -> usize
     size as usize
 }
 
-fn ask(case: &[u8]) {
+fn ask(rt: &impl Print, case: &[u8]) {
     if case.len() < 104 {
         return;
     }
     let both = &case[104..];
     let first = order::u64_at(case, 96);
     if both.len() as u64 <= first {
-        answer(case, both, &both[0..0]);
+        answer(rt, case, both, &both[0..0]);
         return;
     }
     let m = first as usize;
-    answer(case, &both[0..m], &both[m..]);
+    answer(rt, case, &both[0..m], &both[m..]);
 }
 
-fn answer(case: &[u8], a: &[u8], b: &[u8]) {
+fn answer(rt: &impl Print, case: &[u8], a: &[u8], b: &[u8]) {
     let what = order::u64_at(case, 8);
-    number(what);
+    number(rt, what);
     match what {
-        1 => footer_case(case, a),
-        2 => name_case(case, a),
-        3 => offsets_case(case, a),
-        4 => sizes_case(case, a),
-        5 => open_case(case, a, b),
-        6 => query_case(case, a, b),
-        7 => opened_case(case, a, b),
-        8 => var_offsets_case(case, a),
-        9 => batch_case(case, a, b),
-        10 => box_test_case(case, a, b),
-        11 => blocks_case(case, a, b),
+        1 => footer_case(rt, case, a),
+        2 => name_case(rt, case, a),
+        3 => offsets_case(rt, case, a),
+        4 => sizes_case(rt, case, a),
+        5 => open_case(rt, case, a, b),
+        6 => query_case(rt, case, a, b),
+        7 => opened_case(rt, case, a, b),
+        8 => var_offsets_case(rt, case, a),
+        9 => batch_case(rt, case, a, b),
+        10 => box_test_case(rt, case, a, b),
+        11 => blocks_case(rt, case, a, b),
         _ => (),
     }
-    io::write_all(STDOUT_FILENO, b"\n");
+    let _ = rt.write_all(b"\n");
 }
 
-fn number(x: u64) {
-    io::print_decimal(STDOUT_FILENO, x);
-    io::write_all(STDOUT_FILENO, b"\t");
+fn number(rt: &impl Print, x: u64) {
+    let _ = print!(rt; "{x}\t");
 }
 
 // The kind of a Datatype number. No case has another number.
@@ -121,132 +147,135 @@ fn description(case: &[u8]) -> Description {
 }
 
 // A footer's lists, in the order of its fields.
-fn footer_lists(f: Footer) {
+fn footer_lists(rt: &impl Print, f: Footer) {
     let file_sizes = f.file_sizes;
-    list(file_sizes);
+    list(rt, file_sizes);
     let file_var_sizes = f.file_var_sizes;
-    list(file_var_sizes);
+    list(rt, file_var_sizes);
     let file_validity_sizes = f.file_validity_sizes;
-    list(file_validity_sizes);
+    list(rt, file_validity_sizes);
     let tile_offsets = f.tile_offsets;
-    list(tile_offsets);
+    list(rt, tile_offsets);
     let var_offsets = f.var_offsets;
-    list(var_offsets);
+    list(rt, var_offsets);
     let var_sizes = f.var_sizes;
-    list(var_sizes);
+    list(rt, var_sizes);
     let validity = f.validity;
-    list(validity);
+    list(rt, validity);
     let mins = f.mins;
-    list(mins);
+    list(rt, mins);
     let maxes = f.maxes;
-    list(maxes);
+    list(rt, maxes);
     let sums = f.sums;
-    list(sums);
+    list(rt, sums);
     let null_counts = f.null_counts;
-    list(null_counts);
+    list(rt, null_counts);
 }
 
 // Every number of a footer, and the cells of tile `i` and of the whole.
-fn footer_case(case: &[u8], bytes: &[u8]) {
+fn footer_case(rt: &impl Print, case: &[u8], bytes: &[u8]) {
     let d = description(case);
     let size = order::u64_at(case, 72);
     let i = order::u64_at(case, 80);
     let f = footer_fields::open(d, size, bytes);
-    number(f.number);
-    number(f.place);
-    number(f.version);
-    number(f.name_size);
-    number(f.dense);
-    number(f.null_domain);
-    number(f.tiles);
-    number(f.last_cells);
-    number(f.timestamps);
-    number(f.deletes);
-    number(f.rtree);
-    number(f.fragment);
-    number(f.conditions);
-    number(f.length);
-    footer_lists(f);
-    number(cells::tile_cells(d, size, bytes, i));
-    number(cells::total_cells(d, size, bytes));
+    number(rt, f.number);
+    number(rt, f.place);
+    number(rt, f.version);
+    number(rt, f.name_size);
+    number(rt, f.dense);
+    number(rt, f.null_domain);
+    number(rt, f.tiles);
+    number(rt, f.last_cells);
+    number(rt, f.timestamps);
+    number(rt, f.deletes);
+    number(rt, f.rtree);
+    number(rt, f.fragment);
+    number(rt, f.conditions);
+    number(rt, f.length);
+    footer_lists(rt, f);
+    number(rt, cells::tile_cells(d, size, bytes, i));
+    number(rt, cells::total_cells(d, size, bytes));
 }
 
 // The first three places of a list, and the last.
-fn list(entries: [u64; 64]) {
-    number(entries[0]);
-    number(entries[1]);
-    number(entries[2]);
-    number(entries[63]);
+fn list(rt: &impl Print, entries: [u64; 64]) {
+    number(rt, entries[0]);
+    number(rt, entries[1]);
+    number(rt, entries[2]);
+    number(rt, entries[63]);
 }
 
-fn name_case(case: &[u8], bytes: &[u8]) {
+fn name_case(rt: &impl Print, case: &[u8], bytes: &[u8]) {
     let d = description(case);
     let name = cells::schema_name(d, order::u64_at(case, 72), bytes);
-    number(name.len() as u64);
-    io::write_all(STDOUT_FILENO, name);
+    number(rt, name.len() as u64);
+    let _ = rt.write_all(name);
 }
 
-fn offsets_case(case: &[u8], bytes: &[u8]) {
+fn offsets_case(rt: &impl Print, case: &[u8], bytes: &[u8]) {
     let n = order::u64_at(case, 72);
     let size = order::u64_at(case, 80);
     let i = order::u64_at(case, 88);
     let r = entries::open_offsets(bytes, n, size);
-    offsets_answer(r, extents::tile_extent(bytes, n, size, i));
+    offsets_answer(rt, r, extents::tile_extent(bytes, n, size, i));
 }
 
-fn var_offsets_case(case: &[u8], bytes: &[u8]) {
+fn var_offsets_case(rt: &impl Print, case: &[u8], bytes: &[u8]) {
     let n = order::u64_at(case, 72);
     let size = order::u64_at(case, 80);
     let i = order::u64_at(case, 88);
     let r = entries::open_var_offsets(bytes, n, size);
-    offsets_answer(r, extents::var_tile_extent(bytes, n, size, i));
+    offsets_answer(rt, r, extents::var_tile_extent(bytes, n, size, i));
 }
 
 // What a list of offsets answers, and one of its tiles.
-fn offsets_answer(r: TileOffsets, e: Extent) {
-    number(r.number);
-    number(r.place);
-    number(r.tiles);
-    number(e.offset);
-    number(e.extent);
+fn offsets_answer(rt: &impl Print, r: TileOffsets, e: Extent) {
+    number(rt, r.number);
+    number(rt, r.place);
+    number(rt, r.tiles);
+    number(rt, e.offset);
+    number(rt, e.extent);
 }
 
-fn sizes_case(case: &[u8], bytes: &[u8]) {
+fn sizes_case(rt: &impl Print, case: &[u8], bytes: &[u8]) {
     let r = entries::open_sizes(bytes, order::u64_at(case, 72));
-    number(r.number);
-    number(r.place);
-    number(r.sum);
+    number(rt, r.number);
+    number(rt, r.place);
+    number(rt, r.sum);
 }
 
-fn open_case(case: &[u8], bytes: &[u8], body: &[u8]) {
+fn open_case(rt: &impl Print, case: &[u8], bytes: &[u8], body: &[u8]) {
     let d = description(case);
-    opened_numbers(opening::open(d, order::u64_at(case, 72), bytes, body));
+    opened_numbers(rt, opening::open(d, order::u64_at(case, 72), bytes, body));
 }
 
 // The same body in blocks of a given size, with a work buffer of 64 bytes of which as many as the case says are lent.
-fn blocks_case(case: &[u8], bytes: &[u8], body: &[u8]) {
+fn blocks_case(rt: &impl Print, case: &[u8], bytes: &[u8], body: &[u8]) {
     let mut space = [7u8; 64];
     let work: &mut [u8] = &mut space;
     let room = order::u64_at(case, 88);
     if room <= work.len() as u64 {
         let m = room as usize;
-        lend_work(case, bytes, body, &mut work[0..m]);
+        lend_work(rt, case, bytes, body, &mut work[0..m]);
     }
 }
 
-fn lend_work(case: &[u8], bytes: &[u8], body: &[u8], work: &mut [u8]) {
+fn lend_work(rt: &impl Print, case: &[u8], bytes: &[u8], body: &[u8], work: &mut [u8]) {
     let d = description(case);
     let size = order::u64_at(case, 80) as usize;
-    opened_numbers(parts::open_in_blocks(d, order::u64_at(case, 72), bytes, body, size, work));
+    opened_numbers(
+        rt,
+        parts::open_in_blocks(d, order::u64_at(case, 72), bytes, body, size, work),
+    );
 }
 
-fn opened_numbers(r: Opened) {
-    number(r.number);
-    number(r.place);
-    number(r.which);
-    number(r.tiles);
-    number(r.fanout);
-    number(r.levels);
+fn opened_numbers(rt: &impl Print, r: Opened) {
+    number(rt, r.number);
+    number(rt, r.place);
+    number(rt, r.which);
+    number(rt, r.tiles);
+    number(rt, r.fanout);
+    number(rt, r.levels);
 }
 
 // A range by its kind and the patterns of its ends.
@@ -287,25 +316,25 @@ fn window(bytes: &[u8]) -> Window {
 }
 
 // The numbers of the answer, and a buffer of eight places of which `room` are lent.
-fn query_case(case: &[u8], body: &[u8], asked: &[u8]) {
+fn query_case(rt: &impl Print, case: &[u8], body: &[u8], asked: &[u8]) {
     let mut space = [7u32; 8];
     let out: &mut [u32] = &mut space;
-    lend(case, body, asked, out, room(case));
-    places(out);
+    lend(rt, case, body, asked, out, room(case));
+    places(rt, out);
 }
 
 // Thirty-two windows of 104 bytes each, asked at once: their answers, and a buffer of 64 places of which `room` are
 // lent.
-fn batch_case(case: &[u8], body: &[u8], asked: &[u8]) {
+fn batch_case(rt: &impl Print, case: &[u8], body: &[u8], asked: &[u8]) {
     let windows = windows(asked);
     let mut space = [7u32; 64];
     let out: &mut [u32] = &mut space;
     let room = order::u64_at(case, 80);
     if room <= out.len() as u64 {
         let m = room as usize;
-        lend_batch(case, body, windows, &mut out[0..m]);
+        lend_batch(rt, case, body, windows, &mut out[0..m]);
     }
-    all_places(out);
+    all_places(rt, out);
 }
 
 fn windows(asked: &[u8]) -> [Window; 32] {
@@ -325,7 +354,7 @@ fn window_from(asked: &[u8], at: usize) -> Window {
     window(asked)
 }
 
-fn lend_batch(case: &[u8], body: &[u8], windows: [Window; 32], out: &mut [u32]) {
+fn lend_batch(rt: &impl Print, case: &[u8], body: &[u8], windows: [Window; 32], out: &mut [u32]) {
     let d = description(case);
     let n = order::u64_at(case, 72);
     let none = Answer {
@@ -337,38 +366,38 @@ fn lend_batch(case: &[u8], body: &[u8], windows: [Window; 32], out: &mut [u32]) 
     let answers = batch::query_32(d, n, body, windows, [none; 32], out);
     let mut i: usize = 0;
     while i < 32 {
-        answered(answers[i]);
+        answered(rt, answers[i]);
         i += 1;
     }
 }
 
-fn all_places(out: &[u32]) {
+fn all_places(rt: &impl Print, out: &[u32]) {
     let mut i: usize = 0;
     while i < out.len() {
-        number(wide(out[i]));
+        number(rt, wide(out[i]));
         i += 1;
     }
 }
 
 // One box and a window.
-fn box_test_case(case: &[u8], bytes: &[u8], asked: &[u8]) {
+fn box_test_case(rt: &impl Print, case: &[u8], bytes: &[u8], asked: &[u8]) {
     let r = query::box_test(description(case), bytes, window(asked));
-    number(r.number);
-    number(r.place);
-    number(r.tested.meets as u64);
-    number(r.tested.read as u64);
+    number(rt, r.number);
+    number(rt, r.place);
+    number(rt, r.tested.meets as u64);
+    number(rt, r.tested.read as u64);
 }
 
 // An opened tree, asked once. The second string is the window, of 104 bytes, and then the body.
-fn opened_case(case: &[u8], bytes: &[u8], both: &[u8]) {
+fn opened_case(rt: &impl Print, case: &[u8], bytes: &[u8], both: &[u8]) {
     if both.len() < 104 {
         return;
     }
     let mut space = [7u32; 8];
     let out: &mut [u32] = &mut space;
     let w = window(both);
-    open_and_lend(case, bytes, &both[104..], w, out, room(case));
-    places(out);
+    open_and_lend(rt, case, bytes, &both[104..], w, out, room(case));
+    places(rt, out);
 }
 
 fn room(case: &[u8]) -> usize {
@@ -379,20 +408,20 @@ fn room(case: &[u8]) -> usize {
     8
 }
 
-fn places(out: &[u32]) {
-    place(out, 0);
-    place(out, 1);
-    place(out, 2);
-    place(out, 3);
-    place(out, 4);
-    place(out, 5);
-    place(out, 6);
-    place(out, 7);
+fn places(rt: &impl Print, out: &[u32]) {
+    place(rt, out, 0);
+    place(rt, out, 1);
+    place(rt, out, 2);
+    place(rt, out, 3);
+    place(rt, out, 4);
+    place(rt, out, 5);
+    place(rt, out, 6);
+    place(rt, out, 7);
 }
 
-fn place(places: &[u32], i: usize) {
+fn place(rt: &impl Print, places: &[u32], i: usize) {
     if i < places.len() {
-        number(wide(places[i]));
+        number(rt, wide(places[i]));
     }
 }
 
@@ -400,27 +429,35 @@ fn wide(x: u32) -> u64 {
     x as u64
 }
 
-fn lend(case: &[u8], body: &[u8], asked: &[u8], out: &mut [u32], room: usize) {
+fn lend(rt: &impl Print, case: &[u8], body: &[u8], asked: &[u8], out: &mut [u32], room: usize) {
     let d = description(case);
     let w = window(asked);
     let n = order::u64_at(case, 72);
     if room <= out.len() {
-        answered(query::query(d, n, body, w, &mut out[0..room]));
+        answered(rt, query::query(d, n, body, w, &mut out[0..room]));
     }
 }
 
-fn open_and_lend(case: &[u8], bytes: &[u8], body: &[u8], w: Window, out: &mut [u32], room: usize) {
+fn open_and_lend(
+    rt: &impl Print,
+    case: &[u8],
+    bytes: &[u8],
+    body: &[u8],
+    w: Window,
+    out: &mut [u32],
+    room: usize,
+) {
     let d = description(case);
     let size = order::u64_at(case, 72);
     if room <= out.len() {
         let r = opened::open_and_ask(d, size, bytes, body, w, &mut out[0..room]);
-        answered(r);
+        answered(rt, r);
     }
 }
 
-fn answered(r: Answer) {
-    number(r.number);
-    number(r.place);
-    number(r.found);
-    number(r.looked);
+fn answered(rt: &impl Print, r: Answer) {
+    number(rt, r.number);
+    number(rt, r.place);
+    number(rt, r.found);
+    number(rt, r.looked);
 }

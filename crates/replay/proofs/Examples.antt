@@ -5,7 +5,7 @@ use Prim.Native.Nat.{ℕ, zero, suc, ◌/◌, ◌%◌}
 use mathlib.Core.Path.{◌≡◌, refl}
 use mathlib.Core.Bool.{true, false}
 use mathlib.Core.List.{[], ◌∷◌, ◌++◌}
-use lib.ListN.{length, replicate}
+use lib.ListN.{replicate}
 use Rattle.answers.specs.Checks.{first}
 use Rattle.answers.specs.Runs.{over}
 use Rattle.description.specs.declared.Description.{Description}

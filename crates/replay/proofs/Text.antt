@@ -12,7 +12,7 @@ use borrow.Author.Tests.{le-leb, lt-leb}
 use Rattle.answers.specs.Runs.{join}
 use Rattle.answers.proofs.Runs.{over-start, over-left, over_done}
 use Rattle.description.specs.declared.Description.{Description}
-use Rattle.text.specs.Text.{Bytes, newline, lines, line_at}
+use Rattle.text.specs.Text.{Bytes, newline, lines}
 use Rattle.text.specs.Cursor.{end_from}
 use Rattle.text.specs.Code.Places.{AtLine, Wrote}
 use Rattle.text.proofs.Lines.{line-at, more-lines}
