@@ -129,7 +129,7 @@ class Version(unittest.TestCase):
         parts = list(zip(("major", "minor", "patch"), read("VERSION").strip().split(".")))
         code = the_one(CODE, r"fn tussockbell_version\(\)")
         self.assertEqual(re.findall(r"^    let (\w+) = (\d+);$", code, re.M), parts)
-        self.assertEqual(re.findall(r"^(major|minor|patch) = (\d+)$", the_one(SPECS, r"^versionNumber = "), re.M), parts)
+        self.assertEqual(re.findall(r"^(major|minor|patch) = (\d+)$", the_one(SPECS, r"^version_number = "), re.M), parts)
         self.assertTrue(all(int(part) < 1_000 for _, part in parts[1:]))
 
 
@@ -154,7 +154,7 @@ class Refusals(Same):
         header = read(HEADER)
         self.named = re.findall(r"#define TUSSOCKBELL_((?:NOT_)?REFUSED(?:_\w+)?) (\d+)\n", header)
         self.cases = self.once(re.findall(r'case TUSSOCKBELL_(\w+):\s+return "(.*)";', header), HEADER)
-        self.specs = the_one(SPECS, r"^abbrev pub notANumber : ")
+        self.specs = the_one(SPECS, r"^abbrev pub not_a_number : ")
 
     def names(self, pairs, where):
         """Names and numbers, as a table from the numbers to the names."""
@@ -167,7 +167,8 @@ class Refusals(Same):
     def test_names(self):
         refusal = part(the_one(CODE, r"^pub struct Refusal "), r"^impl Refusal \{", r"^\}")
         code = re.findall(r"pub const (\w+): u64 = (\d+);", refusal)
-        specs = re.findall(r"^(\w+) = (\d+)$", self.specs, re.M)
+        # four of the definitions have an article before their names, since a field is called so too
+        specs = [(name.removeprefix("the_"), n) for name, n in re.findall(r"^(\w+) = (\d+)$", self.specs, re.M)]
         rust = part(read("bindings/rust/src/refused.rs"), r"^refusals! \{", r"^\}")
         reference_class = [node for node in ast.parse(read(REFERENCE)).body if isinstance(node, ast.ClassDef) and node.name == "Refusal"]
         given = [(ast.unparse(node.targets[0]), ast.unparse(node.value)) for node in reference_class[0].body if isinstance(node, ast.Assign)]
@@ -266,8 +267,8 @@ class Kinds(Same):
                 found[function] = self.known(table, f"{function} in {path}")
             self.reads(re.findall(rf"\(eqb \w+ (\d+)\) ({names})\b", text), path)
             self.reads([(n, name) for name, n in re.findall(rf"\b({names.upper()}) (\d+)", text)], path)
-        self.assertEqual(found.get("rangeBytes"), "bytes")
-        self.assertEqual(found.get("datatype", found.get("kindNumber")), "number")
+        self.assertEqual(found.get("range_bytes"), "bytes")
+        self.assertEqual(found.get("datatype", found.get("kind_number")), "number")
 
     def test_header(self):
         names = "|".join(name.upper() for name in self.rules)
@@ -333,12 +334,12 @@ class Limits(Same):
         python_rows = re.findall(r"^LEAST_(\w+), MOST_\1 = ([\d_]+), ([\d_]+)$", read(PYTHON_LIMITS), re.M)
         described = part(the_one(CODE, r"const LEAST_DIMENSIONS: "), r"^impl Description \{", r"^\}")
         code = re.findall(r"const (LEAST|MOST)_(\w+): \w+ = ([\d_]+);", described)
-        specs = the_one(SPECS, r"^leastDimensions = ")
+        specs = the_one(SPECS, r"^least_dimensions = ")
         given = self.once(entries(assigned(REFERENCE, "LIMITS")), REFERENCE)
         tables = {
             "docs/RULES.md": self.table([(LIMITS[name], *ends) for name, *ends in rows], "docs/RULES.md"),
             "the code": self.sides(code, "the code"),
-            "the definitions": self.sides(re.findall(r"^(least|most)([A-Z]\w*) = ([\d_]+)$", specs, re.M), "the definitions"),
+            "the definitions": self.sides(re.findall(r"^(least|most)_(\w+) = ([\d_]+)$", specs, re.M), "the definitions"),
             HEADER: self.sides(re.findall(r"#define TUSSOCKBELL_(LEAST|MOST)_(\w+) (\d+)\n", header), HEADER),
             "the Rust crate": self.table([(name, *ends) for name, _, *ends in rust_rows], "the Rust crate"),
             REFERENCE: given,

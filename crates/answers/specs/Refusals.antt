@@ -39,8 +39,8 @@ abbrev pub the_null_domain : ℕ
 the_null_domain = 7
 
 -- a range end is NaN
-abbrev pub not_aNumber : ℕ
-not_aNumber = 8
+abbrev pub not_a_number : ℕ
+not_a_number = 8
 
 -- minimum above maximum
 abbrev pub reversed : ℕ

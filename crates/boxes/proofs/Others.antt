@@ -11,7 +11,7 @@ use Rattle.description.specs.declared.Dimension.{Dimension}
 use Rattle.verdicts.proofs.Judging.{stored_other}
 use Rattle.boxes.specs.Boxes.{ranges_refusal, box_inside, box_refusal}
 
-module _ (m : ℕ) (some : eqb 0 m ≡ false) (nan : eqb refusals.not_aNumber m ≡ false) (far : eqb refusals.infinite m ≡ false)
+module _ (m : ℕ) (some : eqb 0 m ≡ false) (nan : eqb refusals.not_a_number m ≡ false) (far : eqb refusals.infinite m ≡ false)
     (turned : eqb refusals.reversed m ≡ false) (kinds : List Dimension) (sides : ℕ) (bytes : List ℕ) where
   pub ranges-other : (start : ℕ) → Other m (ranges_refusal kinds sides bytes start)
   unfolding ranges_refusal

@@ -45,8 +45,8 @@ upper w n l k =
     fit : (h N : ℕ) → n < N → n - h < N
     fit h N i = omega arith
 
-toZ-upper : (w : Width) (n : ℕ) → half w ≤ n → n < 2 ^ bits w → to_z w n ≡ negsuc (2 ^ bits w - suc n)
-toZ-upper w n l k =
+to_z-upper : (w : Width) (n : ℕ) → half w ≤ n → n < 2 ^ bits w → to_z w n ≡ negsuc (2 ^ bits w - suc n)
+to_z-upper w n l k =
     ap (to_z w) (is (2 ^ bits w) k) ∙ to_z-neg w (2 ^ bits w - suc n) (fit (half w) (2 ^ bits w) (pow-bits w) l k)
   where
     is : (N : ℕ) → n < N → n ≡ N - suc (N - suc n)
@@ -66,8 +66,8 @@ both-upper : (a b h N : ℕ) → h ≤ a → h ≤ b → a < N → b < N → leb
 both-upper a b h N x y l m =
     same_test (leb (N - suc b) (N - suc a)) (leb (a - h) (b - h)) (λ t. omega (arith, leb→le, le→leb)) (λ t. omega (arith, leb→le, le→leb))
 
-pub leZ-by-key : (w : Width) (a b : ℕ) → Fits w a → Fits w b → le_z (to_z w a) (to_z w b) ≡ leb (signed_key w a) (signed_key w b)
-leZ-by-key w a b f g = go (under-or-not a (half w)) (under-or-not b (half w))
+pub le_z-by-key : (w : Width) (a b : ℕ) → Fits w a → Fits w b → le_z (to_z w a) (to_z w b) ≡ leb (signed_key w a) (signed_key w b)
+le_z-by-key w a b f g = go (under-or-not a (half w)) (under-or-not b (half w))
   where
     go : (a < half w) ⊎ (half w ≤ a) → (b < half w) ⊎ (half w ≤ b) → le_z (to_z w a) (to_z w b) ≡ leb (signed_key w a) (signed_key w b)
     go (inl x) (inl y) =
@@ -75,22 +75,22 @@ leZ-by-key w a b f g = go (under-or-not a (half w)) (under-or-not b (half w))
         ∙ same_test (leb a b) (leb (a + half w) (b + half w)) (λ t. omega (arith, leb→le, le→leb)) (λ t. omega (arith, leb→le, le→leb))
         ∙ (λ i. leb (sym (lower w a x) i) (sym (lower w b y) i))
     go (inl x) (inr y) =
-        (λ i. le_z (to_z_pos w a x i) (toZ-upper w b y g.fits i))
+        (λ i. le_z (to_z_pos w a x i) (to_z-upper w b y g.fits i))
         ∙ sym (is_false (leb (a + half w) (b - half w)) (not_T (leb (a + half w) (b - half w)) (lower-upper a b (half w) (2 ^ bits w) (pow-bits w) g.fits y)))
         ∙ (λ i. leb (sym (lower w a x) i) (sym (upper w b y g.fits) i))
     go (inr x) (inl y) =
-        (λ i. le_z (toZ-upper w a x f.fits i) (to_z_pos w b y i))
+        (λ i. le_z (to_z-upper w a x f.fits i) (to_z_pos w b y i))
         ∙ sym (is_true (leb (a - half w) (b + half w)) (le→leb (a - half w) (b + half w) (upper-lower a b (half w) (2 ^ bits w) (pow-bits w) f.fits)))
         ∙ (λ i. leb (sym (upper w a x f.fits) i) (sym (lower w b y) i))
     go (inr x) (inr y) =
-        (λ i. le_z (toZ-upper w a x f.fits i) (toZ-upper w b y g.fits i))
+        (λ i. le_z (to_z-upper w a x f.fits i) (to_z-upper w b y g.fits i))
         ∙ both-upper a b (half w) (2 ^ bits w) x y f.fits g.fits
         ∙ (λ i. leb (sym (upper w a x f.fits) i) (sym (upper w b y g.fits) i))
 
 -- of two numbers, by the bits that stand for them
-pub leZ-by-bits : (w : Width) (a b : ℤ) → SFits w a → SFits w b → le_z (to_z w (of_z w a)) (to_z w (of_z w b)) ≡ signed_at_most w (of_z w a) (of_z w b)
+pub le_z-by-bits : (w : Width) (a b : ℤ) → SFits w a → SFits w b → le_z (to_z w (of_z w a)) (to_z w (of_z w b)) ≡ signed_at_most w (of_z w a) (of_z w b)
 unfolding signed_at_most
-leZ-by-bits w a b f g = leZ-by-key w (of_z w a) (of_z w b) (of_z_fits w a f) (of_z_fits w b g)
+le_z-by-bits w a b f g = le_z-by-key w (of_z w a) (of_z w b) (of_z_fits w a f) (of_z_fits w b g)
 
 -- ---- a pattern p of the upper half: p less the half, plus the lowest number
 module _ (w : Width) (p : ℕ) (l : half w ≤ p) (f : Fits w p) where
@@ -109,10 +109,10 @@ module _ (w : Width) (p : ℕ) (l : half w ≤ p) (f : Fits w p) where
   pub upper-sum : to_z w (p - half w) +ℤ to_z w (half w) ≡ to_z w p
   upper-sum =
       (λ i. to_z_pos w (p - half w) (into (half w) (2 ^ bits w) (pow-bits w) f.fits) i
-      +ℤ toZ-upper w (half w) (le_refl (half w)) (under_whole (half w) (2 ^ bits w) (pow-bits w) (pow_pos (hbits w))) i)
+      +ℤ to_z-upper w (half w) (le_refl (half w)) (under_whole (half w) (2 ^ bits w) (pow-bits w) (pow_pos (hbits w))) i)
       ∙ rw (lt-ltb (p - half w) (suc (2 ^ bits w - suc (half w))) (past (half w) (2 ^ bits w) (pow-bits w) (pow_pos (hbits w)) f.fits))
       (ap negsuc (rest (half w) (2 ^ bits w) (pow-bits w) l))
-      ∙ sym (toZ-upper w p l f.fits)
+      ∙ sym (to_z-upper w p l f.fits)
 
   pub upper_fits : SFits w (to_z w (p - half w) +ℤ to_z w (half w))
   upper_fits = subst (SFits w) (sym upper-sum) (to_z-Fits w p f)

@@ -14,7 +14,7 @@ use lib.ListN.{length, get_or}
 use lib.Ieee.{Format, of_bits, to_bits, fits}
 use lib.Ieee.Bits.{of_bits-fits}
 use borrow.Author.Tests.{ltb-false, le-ltb, eqb-true, not-false}
-use Rattle.answers.specs.Refusals.{none, bytes, not_aNumber, reversed}
+use Rattle.answers.specs.Refusals.{none, bytes, not_a_number, reversed}
 use Rattle.answers.specs.Checks.{check, otherwise, first}
 use Rattle.answers.specs.declared.Refusal.{Refusal}
 use Rattle.answers.proofs.Checks.{past, stop, clear, check-clear, check-none, each_none, last}
@@ -60,7 +60,7 @@ sound k n s h =
     let c = clear _ _ a.1 in
     record {
       laid_out = fixed k n s a.0;
-      values = λ i l. values-keep (λ j. is_nan k (pattern k s j)) not_aNumber (end_bytes k) n (omega arith) c.0 i (omega arith) (omega arith);
+      values = λ i l. values-keep (λ j. is_nan k (pattern k s j)) not_a_number (end_bytes k) n (omega arith) c.0 i (omega arith) (omega arith);
     }
 
 -- a value is in its kind's range of patterns, those of its width, of any bytes
@@ -134,8 +134,8 @@ module _ (k : Kind) (n : ℕ) (mins maxes : List ℕ) where
       let says : (i : ℕ) → i < n → (is_nan k (pattern k mins i) ≡ false) × (is_nan k (pattern k maxes i) ≡ false)
       × (key k (pattern k mins i) ≤ key k (pattern k maxes i))
       = λ i l. at-most-says (ordered k) (pattern k mins i) (pattern k maxes i) (each i l) in
-      let second = values-decide k n maxes g ∙ none-break _ not_aNumber (end_bytes k) n (λ i l. (says i l).1) in (
-        values-decide k n mins f ∙ none-break _ not_aNumber (end_bytes k) n (λ i l. (says i l).0),
+      let second = values-decide k n maxes g ∙ none-break _ not_a_number (end_bytes k) n (λ i l. (says i l).1) in (
+        values-decide k n mins f ∙ none-break _ not_a_number (end_bytes k) n (λ i l. (says i l).0),
         order-decides k n mins maxes (ap (λ (r : Refusal). r.number) second)
             ∙ none-break (min_above k mins maxes) reversed (end_bytes k) n (λ i l. le-ltb _ _ (says i l).2),
       )

@@ -1,7 +1,7 @@
 -- When are the mins or the maxes of a field of a fixed kind refused, by themselves and together, and what is tile i's?
 -- Assumes nothing.
 use Rattle.std.specs.Prelude.{ℕ, Bool, not, List, [], ◌∷◌, ltb, eqb, length}
-use Rattle.answers.specs.Refusals.{bytes, not_aNumber, reversed}
+use Rattle.answers.specs.Refusals.{bytes, not_a_number, reversed}
 use Rattle.answers.specs.Checks.{check, first}
 use Rattle.answers.specs.declared.Refusal.{Refusal}
 use Rattle.description.specs.declared.Kind.{Kind}
@@ -23,7 +23,7 @@ fixed_refusal k n s =
 
 -- "then entries .. a NaN is 8", at the start of its entry
 abbrev pub nan_breaks : Kind → ℕ → List ℕ → Refusal
-nan_breaks k n s = values_break (λ i. is_nan k (pattern k s i)) not_aNumber (end_bytes k) n
+nan_breaks k n s = values_break (λ i. is_nan k (pattern k s i)) not_a_number (end_bytes k) n
 
 unfoldable pub values_refusal : Kind → ℕ → List ℕ → Refusal
 values_refusal k n s = first (fixed_refusal k n s ∷ nan_breaks k n s ∷ [])

@@ -117,7 +117,7 @@ stored-finite e r place h =
     rw (n.0, n.1, s.1)
 
 -- what is said of a stored range has one of the three numbers, or none
-module _ (m : ℕ) (some : eqb 0 m ≡ false) (nan : eqb refusals.not_aNumber m ≡ false) (far : eqb refusals.infinite m ≡ false)
+module _ (m : ℕ) (some : eqb 0 m ≡ false) (nan : eqb refusals.not_a_number m ≡ false) (far : eqb refusals.infinite m ≡ false)
     (turned : eqb refusals.reversed m ≡ false) where
   pub stored_other : (v : Verdict) (place : ℕ) → Other m (stored_refusal v place)
   stored_other (Sound r) place = record { apart = some }

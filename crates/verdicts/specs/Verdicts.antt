@@ -1,7 +1,7 @@
 -- The verdict on a range: what its ends are, and which refusal comes of that.
 -- Assumes nothing.
 use Rattle.std.specs.Prelude.{ℕ, Bool, not, ◌&&◌, ◌||◌, cond, List, ltb}
-use Rattle.answers.specs.Refusals.{refusal, none, not_aNumber, reversed, infinite}
+use Rattle.answers.specs.Refusals.{refusal, none, not_a_number, reversed, infinite}
 use Rattle.answers.specs.declared.Refusal.{Refusal}
 use Rattle.description.specs.declared.Kind.{Kind}
 use Rattle.description.specs.Kinds.{key, is_infinite}
@@ -37,7 +37,7 @@ abbrev pub stored_refusal : Verdict → ℕ → Refusal
 stored_refusal (Sound r) place = none
 stored_refusal (Infinite r) place = refusal infinite place
 stored_refusal InfiniteReversed place = refusal infinite place
-stored_refusal NotANumber place = refusal not_aNumber place
+stored_refusal NotANumber place = refusal not_a_number place
 stored_refusal Reversed place = refusal reversed place
 
 -- And on a range of a query's box, which may be open with infinities: 8, then 9.
@@ -45,5 +45,5 @@ abbrev pub asked_refusal : Verdict → ℕ → Refusal
 asked_refusal (Sound r) place = none
 asked_refusal (Infinite r) place = none
 asked_refusal InfiniteReversed place = refusal reversed place
-asked_refusal NotANumber place = refusal not_aNumber place
+asked_refusal NotANumber place = refusal not_a_number place
 asked_refusal Reversed place = refusal reversed place

@@ -2,7 +2,7 @@
 -- NaN. Assumes nothing.
 use mathlib.Core.Path.{sym, ◌∙◌}
 use Prim.Native.Nat.{ℕ}
-use Rattle.answers.specs.Refusals.{not_aNumber}
+use Rattle.answers.specs.Refusals.{not_a_number}
 use Rattle.description.specs.Kinds.{end_bytes, is_nan}
 use Rattle.tile_values.specs.Values.{pattern}
 use Rattle.tile_metadata.proofs.Turns.{none-break}
@@ -14,4 +14,4 @@ returns-in-Int32 c =
     let a = c.args in
     let value : ℕ → ℕ = pattern a.kind a.body.now in
     c.none.ensures
-    ∙ sym (none-break (λ i. is_nan a.kind (value i)) not_aNumber (end_bytes a.kind) a.n (λ i l. sym (no_nan a.kind (value i) c.in-Int32.is)))
+    ∙ sym (none-break (λ i. is_nan a.kind (value i)) not_a_number (end_bytes a.kind) a.n (λ i l. sym (no_nan a.kind (value i) c.in-Int32.is)))
