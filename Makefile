@@ -36,11 +36,11 @@ help:
 	    'make clean    remove all that was made here' \
 	    'The Python package: pip install bindings/python, after make lib or without it.'
 
-# The program is proved before it is linked; what the prover says goes to build/report.log. The program has no status,
-# so its text decides: 0 only for a report, which begins with the number of tiles.
+# The program is proved before it is linked, and run once with nothing; what is said then goes to build/report.log. The
+# program has no status, so its text decides: 0 only for a report, which begins with the number of tiles.
 report:
 	@mkdir -p build
-	@(cd crates/report && rt lib) 2>&1 | tee build/report.log | tools/progress 5 report || { cat build/report.log >&2; exit 1; }
+	@(cd crates/report && rt run < /dev/null) 2>&1 | tee build/report.log | tools/progress 5 report || { cat build/report.log >&2; exit 1; }
 	@said=$$(crates/report/out/report $(foreach file,DESCRIPTION FOOTER TREE OFFSETS,$(call quoted,$($(file))))) || exit 1; \
 	    [ -z "$$said" ] || printf '%s\n' "$$said" || exit 1; \
 	    [[ $$said = tiles$$'\t'* ]]

@@ -56,10 +56,13 @@ class Make(unittest.TestCase):
             self.assertNotEqual(made(output=full).returncode, 0)
 
     def test_progress(self):
-        """The crates that are counted are those of which rt says that they are proved."""
-        self.assertEqual(made().returncode, 0)
-        log = ROOT / "build/report.log"
-        proved = len(re.findall(r"^rt: \w+ proved \(", log.read_text(), re.M))
+        """The crates that are counted are the program's and all that they use; rt ends what it says of each with a line that it is proved."""
+        uses = {line.split(":")[0].split()[0]: line.split(":")[1].split() for line in (ROOT / "crates.txt").read_text().splitlines() if line[:1] not in ("", "#")}
+        below = {"report"}
+        while (more := below | {used for name in below for used in uses[name]}) != below:
+            below = more
+        proved, log = len(below), self.folder / "log"
+        log.write_text("".join(f"crate {name}: modules loaded=1 checked=1\nlogic=proved functions=1 sum=0\n" for name in sorted(below)))
         waiting = f"sleep 3; cat '{log}'"
         done = subprocess.run(f"({waiting}) | tools/progress 3 report", shell=True, cwd=ROOT, capture_output=True, text=True)
         first, *_, last = done.stderr.splitlines()

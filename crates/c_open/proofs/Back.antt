@@ -8,7 +8,6 @@ use native.Mathlib.Nat.{zero-add}
 use native.Mathlib.Omega.{arith}
 use lib.ListN.{length, get_or, take, drop, replicate, length-append, length-replicate, get_or-append}
 use lib.Seq.{sets, get_or-append-add}
-use Rattle.answers.specs.Runs.{over}
 use Rattle.answers.proofs.Runs.{over-ext}
 use Rattle.answers.proofs.Filled.{row-length, row_at}
 use Rattle.answers.proofs.Joined.{cut-join}

@@ -3,20 +3,18 @@
 -- Assumes nothing.
 use mathlib.Core.Path.{◌≡◌, refl, sym, ap, ◌∙◌}
 use mathlib.Core.Bool.{cond}
-use mathlib.Core.List.{List, [], ◌∷◌, ◌++◌, append-nil}
+use mathlib.Core.Logic.{◌⊎◌, inl, inr}
+use mathlib.Core.List.{List, ◌++◌, append-nil}
 use Prim.Native.Nat.{ℕ, ◌+◌, ◌-◌, ◌≤◌, ◌<◌}
 use native.Mathlib.Nat.{zero-add}
 use native.Mathlib.Omega.{arith}
 use lib.Dec.{leb}
 use lib.ListN.{length, get_or, take, drop, length-take, length-drop}
 use lib.Seq.{sets, sets-eq, take_all, take-add, drop-length}
-use types.Run.{OneOf, miss}
-use denote.Enum.Declared.{tag_of}
 use Rattle.order.specs.Little.{little, bytes_of}
 use Rattle.order.proofs.Bytes.{bytes-length}
 use Rattle.description.specs.declared.Kind.{Kind}
-use Rattle.description.specs.declared.Kind.TheVariants.{Int32, Int64, Float32, Float64, Uint64}
-use Rattle.description.specs.contracts.Kind.{the_type}
+use Rattle.description.specs.declared.Kind.TheVariants.{Int64, Float32, Float64, Uint64}
 use Rattle.description.specs.Kinds.{range_bytes}
 use Rattle.ranges.proofs.Reading.{part-ends}
 use Rattle.widened.specs.Widened.{widened_kind, widened_side}
@@ -70,10 +68,8 @@ pub record Sixteen (k : Kind) : Type 0 where
   pub new : range_bytes (widened_kind k) ≡ 16
   pub same : (s : List ℕ) (at : ℕ) → widened_side k s at ≡ take 16 (drop at s)
 
-pub sixteen : (k : Kind) → OneOf (1 ∷ 3 ∷ 4 ∷ []) (tag_of the_type k) → Sixteen k
+pub sixteen-kinds : (k : Kind) → (k ≡ Int64) ⊎ ((k ≡ Float64) ⊎ (k ≡ Uint64)) → Sixteen k
 unfolding widened_side
-sixteen Int32 h = absurd (miss (1 ∷ 3 ∷ 4 ∷ []) 0 tt h)
-sixteen Int64 h = record { old = refl; new = refl; same = λ s at. refl }
-sixteen Float32 h = absurd (miss (1 ∷ 3 ∷ 4 ∷ []) 2 tt h)
-sixteen Float64 h = record { old = refl; new = refl; same = λ s at. refl }
-sixteen Uint64 h = record { old = refl; new = refl; same = λ s at. refl }
+sixteen-kinds k (inl e) = rw e (record { old = refl; new = refl; same = λ s at. refl })
+sixteen-kinds k (inr (inl e)) = rw e (record { old = refl; new = refl; same = λ s at. refl })
+sixteen-kinds k (inr (inr e)) = rw e (record { old = refl; new = refl; same = λ s at. refl })

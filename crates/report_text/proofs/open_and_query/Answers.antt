@@ -19,9 +19,8 @@ returns-then-opened-ne0 c =
 
 pub returns-then-listed-ne0 : goal.returns-then-listed-ne0
 returns-then-listed-ne0 c =
-    let lists : (let x = c.args in
-    c.open_offsets-listed.result ≡ offsets_listed x.asked x.footer.now x.tree.now x.offsets.now)
-    = c.open_offsets-listed.ensures.answer ∙ rw c.open-opened.ensures in
+    let lists : c.open_offsets-listed.result ≡ offsets_listed c.args.asked c.args.footer.now c.args.tree.now c.args.offsets.now =
+    c.open_offsets-listed.ensures.answer ∙ rw c.open-opened.ensures in
     let x = c.args in
     renders-offsets x.asked x.footer.now x.tree.now x.offsets.now (not-false _ c.if-not-asked.false) c.open-opened.ensures
     c.if-opened-ne0.false lists
@@ -29,28 +28,22 @@ returns-then-listed-ne0 c =
 
 pub returns-then-answer-ne0 : goal.returns-then-answer-ne0
 returns-then-answer-ne0 c =
-    let lists : (let x = c.args in
-    c.open_offsets-listed.result ≡ offsets_listed x.asked x.footer.now x.tree.now x.offsets.now)
-    = c.open_offsets-listed.ensures.answer ∙ rw c.open-opened.ensures in
-    let answers : (let x = c.args in
-    c.query-answer.result ≡ answered x.asked x.footer.now x.tree.now)
-    = c.query-answer.ensures.answer ∙ rw c.open-opened.ensures in
+    let lists : c.open_offsets-listed.result ≡ offsets_listed c.args.asked c.args.footer.now c.args.tree.now c.args.offsets.now =
+    c.open_offsets-listed.ensures.answer ∙ rw c.open-opened.ensures in
+    let answers : c.query-answer.result ≡ answered c.args.asked c.args.footer.now c.args.tree.now =
+    c.query-answer.ensures.answer ∙ rw c.open-opened.ensures in
     let x = c.args in
     renders-query x.asked x.footer.now x.tree.now x.offsets.now (not-false _ c.if-not-asked.false) c.open-opened.ensures
     c.if-opened-ne0.false lists c.if-listed-ne0.false answers _ c.if-answer-ne0.true c.ended-then-answer-ne0.ensures
 
 pub returns : goal.returns
 returns c =
-    let lists : (let x = c.args in
-    c.open_offsets-listed.result ≡ offsets_listed x.asked x.footer.now x.tree.now x.offsets.now)
-    = c.open_offsets-listed.ensures.answer ∙ rw c.open-opened.ensures in
-    let answers : (let x = c.args in
-    c.query-answer.result ≡ answered x.asked x.footer.now x.tree.now)
-    = c.query-answer.ensures.answer ∙ rw c.open-opened.ensures in
-    let leaves : ((let x = c.args in
-    c.query-answer.new.out
-    ≡ query_buffer x.asked.description (opened x.asked x.footer.now x.tree.now).tiles x.tree.now x.asked.window x.tiles.now))
-    = c.query-answer.ensures.buffer ∙ rw c.open-opened.ensures in
+    let lists : c.open_offsets-listed.result ≡ offsets_listed c.args.asked c.args.footer.now c.args.tree.now c.args.offsets.now =
+    c.open_offsets-listed.ensures.answer ∙ rw c.open-opened.ensures in
+    let answers : c.query-answer.result ≡ answered c.args.asked c.args.footer.now c.args.tree.now =
+    c.query-answer.ensures.answer ∙ rw c.open-opened.ensures in
+    let leaves : c.query-answer.new.out ≡ query_buffer c.args.asked.description (opened c.args.asked c.args.footer.now c.args.tree.now).tiles c.args.tree.now c.args.asked.window c.args.tiles.now =
+    c.query-answer.ensures.buffer ∙ rw c.open-opened.ensures in
     let x = c.args in
     renders-listing x.asked x.footer.now x.tree.now x.offsets.now (not-false _ c.if-not-asked.false) c.open-opened.ensures
     c.if-opened-ne0.false lists c.if-listed-ne0.false answers c.if-answer-ne0.false

@@ -1,0 +1,26 @@
+-- `c_box_test::tussockbell_box_test` meets its contract: the library's own answer, place by place, over the description and the window that the numbers and
+-- bytes stand for. Assumes nothing.
+use mathlib.Core.Path.{◌≡◌, ap}
+use mathlib.Core.Bool.{cond}
+use mathlib.Core.List.{List, [], ◌∷◌}
+use Prim.Native.Nat.{ℕ}
+use Rattle.description.specs.declared.Description.{Description}
+use Rattle.boxes.specs.declared.Window.{Window}
+use Rattle.query.specs.declared.BoxTest.{BoxTest}
+use Rattle.query.specs.BoxTest.{box_test_answer}
+use Rattle.c_arguments.specs.Windows.{window_of_bytes}
+use Rattle.c_box_test.specs.Places.{box_test_places}
+use Rattle.c_box_test.proofs.tussockbell_box_test.Goals as goal
+
+-- with a window that goes by the description
+asked : {d : Description} {w : Window} {r : BoxTest} {meets : ℕ} (described : Description) (bytes : List ℕ) (f : Description → Window)
+    → d ≡ described → w ≡ f d → r ≡ box_test_answer d bytes w → meets ≡ cond r.tested.meets 1 0
+    → (r.number ∷ r.place ∷ meets ∷ r.tested.read ∷ []) ≡ box_test_places (box_test_answer described bytes (f described))
+unfolding box_test_places
+asked described bytes f p q e m = rw m (ap box_test_places (rw (q, p) at e))
+
+pub returns-clause-answer : goal.returns-clause-answer
+returns-clause-answer c =
+    let a = c.args in
+    asked _ a.stored.now (λ d. window_of_bytes d a.window_kinds.now a.window_ends.now) c.describe-d.ensures c.window_of-w.ensures
+    c.box_test-r.ensures.answer c.or_zero-meets.ensures

@@ -1,0 +1,14 @@
+-- `c_open::put_words` meets its contract: the numbers still to come, over what stands there now, are all of them over
+-- what stood there first. Assumes nothing.
+use mathlib.Core.Path.{◌≡◌}
+use Prim.Native.Nat.{◌+◌, ◌-◌, ◌≤◌}
+use lib.ListN.{drop}
+use lib.Seq.{sets}
+use Rattle.c_open.specs.State.{words_of}
+use Rattle.c_open.proofs.put_words.Given as goal
+
+abbrev pub invariant-loop-i : goal.invariant-loop-i
+invariant-loop-i l = (l.i ≤ 8) × (sets l.state (l.at + l.i) (drop l.i (words_of l.bytes)) ≡ sets l.initial.state l.at (words_of l.bytes))
+
+abbrev pub decreases-loop-i : goal.decreases-loop-i
+decreases-loop-i l = 8 - l.i

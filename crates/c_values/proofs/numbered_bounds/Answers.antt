@@ -1,0 +1,12 @@
+-- `c_values::numbered_bounds` meets its contract: by whether the number is a kind's. Assumes nothing.
+use mathlib.Core.Path.{sym, ◌∙◌}
+use Rattle.c_values.specs.Numbered.{numbered_bounds}
+use Rattle.c_values.proofs.numbered_bounds.Goals as goal
+
+pub returns-then-is_kind : goal.returns-then-is_kind
+unfolding numbered_bounds
+returns-then-is_kind c = rw (sym c.is_kind.ensures ∙ c.if-is_kind.true) (c.tile_bounds.ensures ∙ rw c.of.ensures)
+
+pub returns-else-is_kind : goal.returns-else-is_kind
+unfolding numbered_bounds
+returns-else-is_kind c = rw (sym c.is_kind.ensures ∙ c.if-is_kind.false)
