@@ -1,8 +1,9 @@
 -- `leaves::first_fault` meets its contract. The invariant: the place is that of leaf k, and what the leaves from k on say is
 -- what all of them say, since the ones before said nothing. The measure is the number of leaves that are left.
 -- Assumes nothing.
-use Prim.Native.Nat.{◌+◌, ◌-◌, ◌≤◌}
+use Prim.Native.Nat.{ℕ, ◌+◌, ◌-◌, ◌*◌, ◌≤◌, ◌<◌}
 use mathlib.Core.Path.{◌≡◌, sym, ◌∙◌}
+use mathlib.Core.List.{List}
 use native.Mathlib.Omega.{arith}
 use native.Mathlib.Nat.{mul-le-mul_right}
 use lib.ListN.{length}
@@ -10,6 +11,7 @@ use Rattle.answers.specs.Refusals.{none}
 use Rattle.answers.specs.Checks.{otherwise}
 use Rattle.answers.proofs.Runs.{over-start}
 use Rattle.answers.proofs.Checks.{past-left, stop-left, none_left}
+use Rattle.description.specs.declared.Description.{Description}
 use Rattle.description.specs.Description.{sides_of, bytes_of_box}
 use Rattle.boxes.proofs.Moving.{ranges-told}
 use Rattle.leaves.specs.Code.Sound.{leaves_refusal}
@@ -20,60 +22,39 @@ pub loop-k-init : goal.loop-k-init
 unfolding leaves_refusal
 loop-k-init c = (omega arith, omega arith, over-start otherwise none _ _)
 
+-- leaf k is there
+there : (d : Description) (n : ℕ) (leaves : List ℕ) → length leaves ≡ n * bytes_of_box d
+    → (k at b : ℕ) → k < n → at ≡ k * bytes_of_box d → b ≡ bytes_of_box d → at + b ≤ length leaves
+there d n leaves whole k at b h place own = omega (arith, whole, place, own, mul-le-mul_right (bytes_of_box d) h)
+
 pub returns-then-placed-ne0 : goal.returns-then-placed-ne0
 unfolding bytes_of_box
 returns-then-placed-ne0 c =
-    let there : c.loop-k.at + c.box_bytes-box_bytes.result ≤ length c.args.leaves.now
-    = let x = c.args in
-    omega (
-      arith,
-      c.loop-k.invariant.1,
-      c.box_bytes-box_bytes.ensures,
-      c.requires,
-      mul-le-mul_right (bytes_of_box x.description) c.loop-k-test.true,
-    ) in
-    let told : (let x = c.args in
-    let l = c.loop-k in
-    c.moved-placed.result ≡ leaf_at x.description x.leaves.now l.k)
-    =
     let x = c.args in
     let d = x.description in
     let l = c.loop-k in
     let b = c.box_bytes-box_bytes.ensures in
+    let inside = there d x.tiles x.leaves.now c.requires l.k l.at c.box_bytes-box_bytes.result c.loop-k-test.true l.invariant.1 b in
     let size : l.at + c.box_bytes-box_bytes.result - l.at ≡ bytes_of_box d = omega (arith, b) in
-    let e = rw size at c.check_ranges-told.ensures in
+    let told : c.moved-placed.result ≡ leaf_at d x.leaves.now l.k =
     rw (← l.invariant.1)
-    (ranges-told d.kinds (sides_of d.dimensions) _ l.at e c.moved-placed.ensures (omega (arith, there, b))) in
-    let l = c.loop-k in
+    (ranges-told d.kinds (sides_of d.dimensions) _ l.at (rw size at c.check_ranges-told.ensures) c.moved-placed.ensures (omega (arith, inside, b))) in
     sym (l.invariant.2 ∙ stop-left _ l.k _ _ c.loop-k-test.true told c.if-placed-ne0.true)
 
 pub loop-k-preserved : goal.loop-k-preserved
 unfolding bytes_of_box
 loop-k-preserved c =
-    let there : c.loop-k.at + c.box_bytes-box_bytes.result ≤ length c.args.leaves.now
-    = let x = c.args in
-    omega (
-      arith,
-      c.loop-k.invariant.1,
-      c.box_bytes-box_bytes.ensures,
-      c.requires,
-      mul-le-mul_right (bytes_of_box x.description) c.loop-k-test.true,
-    ) in
-    let told : (let x = c.args in
-    let l = c.loop-k in
-    c.moved-placed.result ≡ leaf_at x.description x.leaves.now l.k)
-    =
     let x = c.args in
     let d = x.description in
     let l = c.loop-k in
     let b = c.box_bytes-box_bytes.ensures in
+    let inside = there d x.tiles x.leaves.now c.requires l.k l.at c.box_bytes-box_bytes.result c.loop-k-test.true l.invariant.1 b in
     let size : l.at + c.box_bytes-box_bytes.result - l.at ≡ bytes_of_box d = omega (arith, b) in
-    let e = rw size at c.check_ranges-told.ensures in
+    let told : c.moved-placed.result ≡ leaf_at d x.leaves.now l.k =
     rw (← l.invariant.1)
-    (ranges-told d.kinds (sides_of d.dimensions) _ l.at e c.moved-placed.ensures (omega (arith, there, b))) in
-    let l = c.loop-k in (
+    (ranges-told d.kinds (sides_of d.dimensions) _ l.at (rw size at c.check_ranges-told.ensures) c.moved-placed.ensures (omega (arith, inside, b))) in (
       omega (arith, c.loop-k-test),
-      omega (arith, l.invariant.1, c.box_bytes-box_bytes.ensures),
+      omega (arith, l.invariant.1, b),
       l.invariant.2 ∙ past-left _ l.k _ _ c.loop-k-test.true told c.if-placed-ne0.false,
     )
 

@@ -16,29 +16,26 @@ use Rattle.writer.proofs.put_side.Goals as goal
 bytes_from : (out : List ℕ) (start : ℕ) → ((i : ℕ) → get_or out i 0 < 256) → (i : ℕ) → get_or (drop start out) i 0 < 256
 bytes_from out start byte i = rw get_or-drop (byte (start + i))
 
+-- the part that is lent is the level
+level : (out : List ℕ) (start : ℕ) → take (length out - start) (drop start out) ≡ drop start out
+level out start = take_all (length out - start) (drop start out) (simp length-drop (omega arith))
+
 pub put_ends-requires : goal.put_ends-requires
 put_ends-requires c =
-    let within : c.args.start ≤ length c.args.out.now
-    = omega (arith, range-bytes-most c.args.kind, simp length-drop at (first-there c.requires.side_row)) in
-    let level : ((let x = c.args in take (length x.out.now - x.start) (drop x.start x.out.now) ≡ drop x.start x.out.now))
-    = let x = c.args in take_all (length x.out.now - x.start) (drop x.start x.out.now) (simp length-drop (omega arith)) in
-    let chosen : ((let x = c.args in
-    LeastEnds x.kind (drop x.start x.out.now) x.box_bytes x.side x.first (x.count - 1) c.least_side-ends.result))
-    = rw level at c.least_side-ends.ensures in
     let x = c.args in
     let byte : (i : ℕ) → get_or x.out.now i 0 < 256 = λ i. search rules in
+    let chosen : LeastEnds x.kind (drop x.start x.out.now) x.box_bytes x.side x.first (x.count - 1) c.least_side-ends.result =
+    rw (level x.out.now x.start) at c.least_side-ends.ensures in
+    let within : x.start ≤ length x.out.now = omega (arith, range-bytes-most x.kind, simp length-drop at (first-there c.requires.side_row)) in
     let fit = ends-at-fit (drop x.start x.out.now) (bytes_from x.out.now x.start byte) x.kind in
     record { low_bound = (rw chosen.0 (fit _).0, rw chosen.1 (fit _).1); kind_in_bounds = omega (arith, c.requires.kind_bound, within) }
 
 pub returns : goal.returns
 returns c =
-    let level : ((let x = c.args in take (length x.out.now - x.start) (drop x.start x.out.now) ≡ drop x.start x.out.now))
-    = let x = c.args in take_all (length x.out.now - x.start) (drop x.start x.out.now) (simp length-drop (omega arith)) in
-    let chosen : ((let x = c.args in
-    LeastEnds x.kind (drop x.start x.out.now) x.box_bytes x.side x.first (x.count - 1) c.least_side-ends.result))
-    = rw level at c.least_side-ends.ensures in
     let x = c.args in
     let byte : (i : ℕ) → get_or x.out.now i 0 < 256 = λ i. search rules in
+    let chosen : LeastEnds x.kind (drop x.start x.out.now) x.box_bytes x.side x.first (x.count - 1) c.least_side-ends.result =
+    rw (level x.out.now x.start) at c.least_side-ends.ensures in
     let all : suc (x.count - 1) ≡ x.count = omega (arith, c.requires.side_row.some) in
     c.put_ends.ensures
     ∙ rw (
