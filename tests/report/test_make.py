@@ -61,6 +61,9 @@ class Make(unittest.TestCase):
         below = {"report"}
         while (more := below | {used for name in below for used in uses[name]}) != below:
             below = more
+        said = subprocess.run(["rt", "check"], cwd=ROOT / "crates/c_version", capture_output=True, text=True)
+        done = subprocess.run("(sleep 3; cat) | tools/progress 1 c_version", shell=True, input=said.stdout + said.stderr, cwd=ROOT, capture_output=True, text=True)
+        self.assertRegex(done.stderr.splitlines()[-1], r"^1 of 1 crates proved, \d+ s$")
         proved, log = len(below), self.folder / "log"
         log.write_text("".join(f"crate {name}: modules loaded=1 checked=1\nlogic=proved functions=1 sum=0\n" for name in sorted(below)))
         waiting = f"sleep 3; cat '{log}'"
