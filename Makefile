@@ -40,7 +40,7 @@ help:
 # program has no status, so its text decides: 0 only for a report, which begins with the number of tiles.
 report:
 	@mkdir -p build
-	@(cd crates/report && rt run < /dev/null) 2>&1 | tee build/report.log | tools/progress 5 report || { cat build/report.log >&2; exit 1; }
+	@(cd crates/report && rt run < /dev/null) 2>&1 | tee build/report.log | tools/progress 15 report || { cat build/report.log >&2; exit 1; }
 	@said=$$(crates/report/out/report $(foreach file,DESCRIPTION FOOTER TREE OFFSETS,$(call quoted,$($(file))))) || exit 1; \
 	    [ -z "$$said" ] || printf '%s\n' "$$said" || exit 1; \
 	    [[ $$said = tiles$$'\t'* ]]
@@ -65,7 +65,7 @@ build/libtussockbell.a: crates.txt Makefile build/sources $(shell $(SOURCES))
 	@mkdir -p build/objects
 	@rm -f build/objects/* $@
 	@for crate in $(EXPORTS); do (cd crates/$$crate && rt lib) || exit 1; done 2>&1 | tee build/lib.log | \
-	    tools/progress 15 $(EXPORTS) || { cat build/lib.log >&2; exit 1; }
+	    tools/progress 30 $(EXPORTS) || { cat build/lib.log >&2; exit 1; }
 	@for crate in $(EXPORTS); do (cd build/objects && ar x ../../crates/$$crate/out/lib$$crate.a) || exit 1; done
 	@for object in build/objects/*.o; do objcopy --set-section-alignment '.text*=32' $$object || exit 1; done
 	@ar rcs $@ build/objects/*.o
