@@ -165,8 +165,8 @@ class Refusals(Same):
         self.assertEqual(min(self.rules), 1)
 
     def test_names(self):
-        refusal = part(the_one(CODE, r"^pub struct Refusal "), r"^impl Refusal \{", r"^\}")
-        code = re.findall(r"pub const (\w+): u64 = (\d+);", refusal)
+        reasons = part(the_one(CODE, r"^pub struct Refusal "), r"^pub enum Reason \{", r"^\}")
+        code = re.findall(r"^    (\w+) = (\d+),$", reasons, re.M)
         # four of the definitions have an article before their names, since a field is called so too
         specs = [(name.removeprefix("the_"), n) for name, n in re.findall(r"^(\w+) = (\d+)$", self.specs, re.M)]
         rust = part(read("bindings/rust/src/refused.rs"), r"^refusals! \{", r"^\}")

@@ -7,3 +7,4 @@ pub mod Others
 pub mod Moved
 pub mod Laid
 pub mod Written
+pub mod Told

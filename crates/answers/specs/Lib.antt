@@ -3,3 +3,4 @@ pub mod Refusals
 pub mod Runs
 pub mod Checks
 pub mod Laid
+pub mod Told

@@ -4,6 +4,7 @@
 ghost use Rattle.std.specs.Prelude.{◌≡◌, min, slice_set};
 ghost use Rattle.answers.specs.Refusals.{refusal, none};
 ghost use Rattle.answers.specs.Checks.{check, otherwise, moved_round};
+ghost use Rattle.answers.specs.Told.{number_of, refused, said, told};
 
 // Number 0: not refused.
 #[derive(Clone, Copy)]
@@ -13,64 +14,6 @@ pub struct Refusal {
 }
 
 impl Refusal {
-    pub const DESCRIPTION: u64 = 1;
-
-    pub const BYTES: u64 = 2;
-
-    pub const VERSION: u64 = 3;
-
-    pub const NAME_SIZE: u64 = 4;
-
-    pub const FLAG: u64 = 5;
-
-    pub const DENSE: u64 = 6;
-
-    pub const NULL_DOMAIN: u64 = 7;
-
-    pub const NOT_A_NUMBER: u64 = 8;
-
-    pub const REVERSED: u64 = 9;
-
-    pub const TILES: u64 = 10;
-
-    pub const LAST_CELLS: u64 = 11;
-
-    pub const OFFSET: u64 = 12;
-
-    pub const FANOUT: u64 = 13;
-
-    pub const LEVELS: u64 = 14;
-
-    pub const OUTSIDE_PARENT: u64 = 15;
-
-    pub const OUTSIDE_DOMAIN: u64 = 16;
-
-    pub const COUNT: u64 = 17;
-
-    pub const TILE_OFFSETS: u64 = 18;
-
-    pub const WINDOW: u64 = 19;
-
-    pub const SIZES_SUM: u64 = 20;
-
-    pub const WORK: u64 = 21;
-
-    pub const RUNS: u64 = 22;
-
-    pub const INFINITE: u64 = 23;
-
-    pub const BAD_LINE: u64 = 24;
-
-    pub const REPEATED: u64 = 25;
-
-    pub const ROOM: u64 = 26;
-
-    pub const NULL_COUNT: u64 = 27;
-
-    pub const RETIRED: u64 = 28;
-
-    pub const GRID: u64 = 29;
-
     pub fn none() -> Refusal
         ensures { result ≡ none }
     {
@@ -112,6 +55,97 @@ impl Refusal {
             return self;
         }
         Refusal::new(self.number, std::num::wrapping_add_u64(start, self.place))
+    }
+}
+
+// Why something is refused, in the order of the numbers.
+#[derive(Clone, Copy, Debug, PartialEq, Eq)]
+pub enum Reason {
+    Description = 1,
+    Bytes = 2,
+    Version = 3,
+    NameSize = 4,
+    Flag = 5,
+    Dense = 6,
+    NullDomain = 7,
+    NotANumber = 8,
+    Reversed = 9,
+    Tiles = 10,
+    LastCells = 11,
+    Offset = 12,
+    Fanout = 13,
+    Levels = 14,
+    OutsideParent = 15,
+    OutsideDomain = 16,
+    Count = 17,
+    TileOffsets = 18,
+    Window = 19,
+    SizesSum = 20,
+    Work = 21,
+    Runs = 22,
+    Infinite = 23,
+    BadLine = 24,
+    Repeated = 25,
+    Room = 26,
+    NullCount = 27,
+    Retired = 28,
+    Grid = 29,
+}
+
+impl Reason {
+    pub fn number(self) -> u64
+        ensures { result ≡ number_of self }
+    {
+        self as u64
+    }
+
+    // Refused for this reason at a place.
+    pub fn at(self, place: u64) -> Refused
+        ensures { result ≡ refused self place }
+    {
+        Refused {
+            reason: self,
+            place,
+        }
+    }
+
+    // The same as a `Result`.
+    #[tactic(auto, unfolding(crate::specs::Told::told))]
+    pub fn when(self, test: bool, place: u64) -> Result<(), Refused>
+        ensures { told result ≡ check test (number_of self) place }
+    {
+        if test { Err(self.at(place)) } else { Ok(()) }
+    }
+}
+
+// The error of whatever checks bytes, a description or a query.
+#[derive(Clone, Copy, Debug, PartialEq, Eq)]
+pub struct Refused {
+    pub reason: Reason,
+    pub place: u64,
+}
+
+impl Refused {
+    // The same from a start on, as above.
+    #[tactic(auto, using(crate::proofs::Told::moved_said))]
+    pub fn moved(self, start: u64) -> Refused
+        ensures { said result ≡ moved_round start (said self) }
+    {
+        self.reason
+            .at(std::num::wrapping_add_u64(start, self.place))
+    }
+}
+
+// As C and the definitions have it.
+impl From<Result<(), Refused>> for Refusal {
+    ghost from_gives = { λ answer r. r ≡ told answer };
+
+    #[tactic(auto, unfolding(crate::specs::Told::told))]
+    fn from(answer: Result<(), Refused>) -> Refusal {
+        match answer {
+            Ok(()) => Refusal::none(),
+            Err(e) => Refusal::new(e.reason.number(), e.place),
+        }
     }
 }
 

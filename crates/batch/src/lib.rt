@@ -5,7 +5,7 @@ ghost use Rattle.std.specs.Prelude.{◌≡◌, length, drop};
 ghost use Rattle.query.specs.Query.{Promises};
 ghost use Rattle.batch.specs.Batch.{batch_of, asked_from, asked_buffer, Batched, Answered};
 
-use answers::Refusal;
+use answers::Reason;
 use boxes::Window;
 use description::Description;
 use query::Answer;
@@ -37,15 +37,11 @@ pub fn query_all(
     ensures { Batched description tiles body.now windows.now result answers.old answers.new out.old out.new }
 {
     let batch = check_runs(windows.len(), answers.len());
-    let turns = batch.windows;
     let mut used = 0;
-    let mut i = 0;
-    while i < turns {
-        let window = windows[i];
-        let asked = ask_from(description, tiles, body, window, out, used);
+    for i in 0..batch.windows {
+        let asked = ask_from(description, tiles, body, windows[i], out, used);
         answers[i] = asked.answer;
         used = asked.used;
-        i += 1;
     }
     batch
 }
@@ -67,7 +63,7 @@ pub fn query_32(
 }
 
 // 22 where the answer run is not as long as the query run.
-#[tactic(auto, unfolding(crate::specs::Batch::batch_of))]
+#[tactic(auto, unfolding(crate::specs::Batch::batch_of, answers::specs::Told::number_of))]
 pub fn check_runs(windows: usize, answers: usize) -> Batch
     ensures { result ≡ batch_of windows answers }
 {
@@ -75,11 +71,11 @@ pub fn check_runs(windows: usize, answers: usize) -> Batch
         Batch {
             number: 0,
             place: 0,
-            windows: windows,
+            windows,
         }
     } else {
         Batch {
-            number: Refusal::RUNS,
+            number: Reason::Runs.number(),
             place: 0,
             windows: 0,
         }
@@ -102,11 +98,11 @@ pub fn ask_from(
     ensures promises { Promises description tiles body.now window result.answer (drop used out.old) (drop used out.new) }
 {
     let room = out.len();
-    let start = answers::lesser(used, room);
+    let start = used.min(room);
     let answer = query::query(description, tiles, body, window, &mut out[start..]);
-    let more = answers::lesser(answer.found as usize, room - start);
+    let more = (answer.found as usize).min(room - start);
     Asked {
-        answer: answer,
+        answer,
         used: used + more,
     }
 }

@@ -2,10 +2,11 @@
 #![tactic(auto)]
 
 ghost use Rattle.std.specs.Prelude.{◌≡◌};
+ghost use Rattle.answers.specs.Told.{told};
 ghost use Rattle.description.specs.Description.{sides_of};
 ghost use Rattle.boxes.specs.Boxes.{no_box, box_of, ranges_refusal};
 
-use answers::Refusal;
+use answers::Refused;
 use description::Dimension;
 use ranges::Range;
 use verdicts::Verdict;
@@ -39,35 +40,26 @@ pub fn read_box(bytes: &[u8], kinds: [Dimension; 4], dimensions: u64) -> [Side; 
     let mut sides = no_box();
     let n = description::sides_of(dimensions);
     let mut at: usize = 0;
-    let mut i: usize = 0;
-    while i < n {
-        let d = kinds[i];
-        let kind = d.kind;
+    for i in 0..n {
+        let kind = kinds[i].kind;
         let range = Range::read(bytes, at, kind);
-        sides[i] = Side { range: range };
+        sides[i] = Side { range };
         at += kind.range_bytes();
-        i += 1;
     }
     sides
 }
 
 // The ranges of a box in turn: the refusal of the first that has a fault, at its start from the box's.
-pub fn check_ranges(bytes: &[u8], kinds: [Dimension; 4], dimensions: u64) -> Refusal
-    ensures { result ≡ ranges_refusal kinds (sides_of dimensions) bytes.now 0 }
+pub fn check_ranges(bytes: &[u8], kinds: [Dimension; 4], dimensions: u64) -> Result<(), Refused>
+    ensures { told result ≡ ranges_refusal kinds (sides_of dimensions) bytes.now 0 }
 {
     let n = description::sides_of(dimensions);
     let mut at: usize = 0;
-    let mut i: usize = 0;
-    while i < n {
-        let d = kinds[i];
-        let kind = d.kind;
+    for i in 0..n {
+        let kind = kinds[i].kind;
         let range = Range::read(bytes, at, kind);
-        let told = Verdict::of(range).stored(at as u64);
-        if told.number != 0 {
-            return told;
-        }
+        Verdict::of(range).stored(at as u64)?;
         at += kind.range_bytes();
-        i += 1;
     }
-    Refusal::none()
+    Ok(())
 }

@@ -87,11 +87,7 @@ fn put(answer: &mut [u64; 730], at: usize, list: &[u64])
     requires { at + length list.now ≤ 730 }
     ensures { answer.new ≡ sets answer.old at list.now }
 {
-    let mut i: usize = 0;
-    while i < list.len() {
-        answer[at + i] = list[i];
-        i += 1;
-    }
+    answer[at..at + list.len()].copy_from_slice(list);
 }
 
 // A range's Datatype number and the patterns of its ends.

@@ -2,7 +2,7 @@
 // numbers and bytes.
 #![tactic(auto)]
 
-ghost use Rattle.std.specs.Prelude.{◌≡◌, ◌&&◌, cond};
+ghost use Rattle.std.specs.Prelude.{◌≡◌, cond};
 ghost use Rattle.c_arguments.specs.Described.{is_kind_at, all_kinds, numbered_dimensions, describe};
 ghost use Rattle.c_arguments.specs.Windows.{other_side, window_of_bytes};
 
@@ -19,8 +19,8 @@ pub fn describe(kinds: &[u8], fields: u64, capacity: u64) -> Description
     Description {
         dimensions: count,
         kinds: dims,
-        fields: fields,
-        capacity: capacity,
+        fields,
+        capacity,
     }
 }
 
@@ -64,28 +64,19 @@ pub fn dimensions_of(numbers: &[u8]) -> [Dimension; 4]
     ]
 }
 
+#[tactic(auto, unfolding(crate::specs::Described::all_kinds))]
 fn all_kinds(numbers: &[u8]) -> bool
     ensures { result ≡ all_kinds numbers.now }
 {
-    let a = is_kind_at(numbers, 0);
-    let b = is_kind_at(numbers, 1);
-    let c = is_kind_at(numbers, 2);
-    let d = is_kind_at(numbers, 3);
-    both(a, both(b, both(c, d)))
-}
-
-fn both(a: bool, b: bool) -> bool
-    ensures { result ≡ (a && b) }
-{
-    if a { b } else { false }
+    is_kind_at(numbers, 0)
+        && (is_kind_at(numbers, 1) && (is_kind_at(numbers, 2) && is_kind_at(numbers, 3)))
 }
 
 // Is number i some kind's?
 fn is_kind_at(numbers: &[u8], i: usize) -> bool
     ensures { result ≡ is_kind_at numbers.now i }
 {
-    let number = order::byte_at(numbers, i);
-    number == Kind::of(number).datatype()
+    Kind::try_from(order::byte_at(numbers, i)).is_ok()
 }
 
 // The side as read, or one of another kind than the description's where its number is no kind's.
@@ -95,8 +86,7 @@ fn side_or_other(numbers: &[u8], i: usize, read: Side, described: Dimension) -> 
     if is_kind_at(numbers, i) {
         return read;
     }
-    let kind = described.kind;
-    if kind.datatype() == Kind::Int32.datatype() {
+    if described.kind == Kind::Int32 {
         return Side {
             range: Range::I64(0, 0),
         };

@@ -30,6 +30,6 @@ pub extern "C" fn tussockbell_box_test(
     let d = c_arguments::describe(kinds, fields, capacity);
     let w = c_arguments::window_of(d, window_kinds, window_ends);
     let r = query::box_test(d, stored, w);
-    let meets = c_arguments::or_zero(r.tested.meets, 1);
+    let meets = r.tested.meets as u64;
     *answer = [r.number, r.place, meets, r.tested.read as u64];
 }

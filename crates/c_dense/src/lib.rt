@@ -9,6 +9,7 @@ ghost use Rattle.c_answers.specs.Places.{footer_places, name_places};
 ghost use Rattle.c_dense.specs.Lent.{order_of, extents_of, describe_grid, lent_refusal, lent_answer, lent_buffer};
 ghost use Rattle.c_dense.specs.Lent.{refusal_places, answer_places};
 
+use answers::Refusal;
 use dense::Order;
 use description::Description;
 
@@ -60,7 +61,7 @@ pub extern "C" fn tussockbell_dense_check(
     let d = describe_grid(kinds, fields, capacity, order);
     let domain = c_arguments::window_of(d, domain_kinds, domain_ends);
     let sizes = extents_of(extents);
-    let r = dense::check_grid(d, domain, sizes);
+    let r = Refusal::from(dense::check_grid(d, domain, sizes));
     *answer = [r.number, r.place];
 }
 

@@ -15,6 +15,7 @@ ghost use Rattle.c_open.specs.State.{kinds_in, kind_numbers};
 
 use description::{Description, Dimension, Kind};
 use parts_state::{Cursor, Parts};
+use rtree::Opened;
 
 // The places of a state: its numbers, and eight bytes in each place from DOMAIN and from HELD on.
 const NUMBER: usize = 0;
@@ -85,7 +86,13 @@ pub extern "C" fn tussockbell_open(
 {
     let d = c_arguments::describe(kinds, fields, capacity);
     let r = opening::open(d, file_size, footer, tree);
-    *answer = [r.number, r.place, r.which, r.tiles, r.fanout, r.levels];
+    *answer = places(r);
+}
+
+fn places(r: Opened) -> [u64; 6]
+    ensures { result ≡ opened_places r }
+{
+    [r.number, r.place, r.which, r.tiles, r.fanout, r.levels]
 }
 
 // Takes the footer and the stated length of the body. What it writes and what a finish reads is written out in each of
@@ -139,20 +146,12 @@ pub extern "C" fn tussockbell_parts_finish(state: &[u64; 40], work: &[u8], answe
     let s = Parts {
         description: d,
         tiles: state[TILES],
-        domain: domain,
+        domain,
         stated: state[STATED],
         cursor: c,
-        held: held,
+        held,
     };
-    let told = parts::finish(s, work);
-    *answer = [
-        told.number,
-        told.place,
-        told.which,
-        told.tiles,
-        told.fanout,
-        told.levels,
-    ];
+    *answer = places(parts::finish(s, work));
 }
 
 // The state as numbers: those that are no list, then the domain's bytes and the bytes of what has come in part, eight
@@ -169,28 +168,15 @@ fn put_state(state: &mut [u64; 40], s: Parts)
     put_bytes(state, HELD, &s.held);
 }
 
+#[tactic(auto, unfolding(crate::specs::State::kind_numbers, answers::specs::Runs::over))]
 fn kind_numbers(kinds: [Dimension; 4]) -> [u64; 4]
     ensures { (result ≡ kind_numbers kinds) × (length kinds ≡ 4) }
 {
-    numbers_of(kinds)
-}
-
-fn numbers_of(kinds: [Dimension; 4]) -> [u64; 4]
-    ensures { result ≡ kind_numbers kinds }
-{
-    let a = kinds[0];
-    let b = kinds[1];
-    let c = kinds[2];
-    let d = kinds[3];
-    let first = a.kind;
-    let second = b.kind;
-    let third = c.kind;
-    let fourth = d.kind;
     [
-        first.datatype(),
-        second.datatype(),
-        third.datatype(),
-        fourth.datatype(),
+        kinds[0].kind.datatype(),
+        kinds[1].kind.datatype(),
+        kinds[2].kind.datatype(),
+        kinds[3].kind.datatype(),
     ]
 }
 
@@ -231,18 +217,8 @@ fn put_bytes(state: &mut [u64; 40], at: usize, bytes: &[u8; 64])
     ensures { (state.new ≡ sets state.old at (words_of bytes.now))
         × (length bytes.now ≡ 64) × ((i : ℕ) → get_or bytes.now i 0 < 256) }
 {
-    put_words(state, at, bytes);
-}
-
-fn put_words(state: &mut [u64; 40], at: usize, bytes: &[u8])
-    requires { at + 8 ≤ 40 }
-    ensures { (state.new ≡ sets state.old at (words_of bytes.now))
-        × ((i : ℕ) → get_or bytes.now i 0 < 256) }
-{
-    let mut i: usize = 0;
-    while i < 8 {
+    for i in 0..8 {
         state[at + i] = order::u64_at(bytes, i * 8);
-        i += 1;
     }
 }
 
@@ -257,10 +233,10 @@ fn state_of(state: &[u64; 40]) -> Parts
     Parts {
         description: d,
         tiles: state[TILES],
-        domain: domain,
+        domain,
         stated: state[STATED],
         cursor: c,
-        held: held,
+        held,
     }
 }
 
@@ -270,7 +246,7 @@ fn description_in(state: &[u64; 40]) -> Description
     let kinds = kinds_in(state);
     Description {
         dimensions: state[DIMENSIONS],
-        kinds: kinds,
+        kinds,
         fields: state[FIELDS],
         capacity: state[CAPACITY],
     }
@@ -298,18 +274,23 @@ fn cursor_of(state: &[u64; 40]) -> Cursor
     }
 }
 
+#[tactic(auto, unfolding(crate::specs::State::kinds_in, answers::specs::Runs::over))]
 fn kinds_in(state: &[u64; 40]) -> [Dimension; 4]
     ensures { result ≡ kinds_in state.now 4 }
 {
-    let a = Kind::of(state[FIRST_KIND]);
-    let b = Kind::of(state[SECOND_KIND]);
-    let c = Kind::of(state[THIRD_KIND]);
-    let d = Kind::of(state[FOURTH_KIND]);
     [
-        Dimension { kind: a },
-        Dimension { kind: b },
-        Dimension { kind: c },
-        Dimension { kind: d },
+        Dimension {
+            kind: Kind::of(state[FIRST_KIND]),
+        },
+        Dimension {
+            kind: Kind::of(state[SECOND_KIND]),
+        },
+        Dimension {
+            kind: Kind::of(state[THIRD_KIND]),
+        },
+        Dimension {
+            kind: Kind::of(state[FOURTH_KIND]),
+        },
     ]
 }
 
@@ -318,10 +299,8 @@ fn bytes_in(state: &[u64; 40], at: usize) -> [u8; 64]
     ensures { result ≡ bytes_in state.now at }
 {
     let mut bytes = [0u8; 64];
-    let mut i: usize = 0;
-    while i < 8 {
+    for i in 0..8 {
         order::put_u64(&mut bytes, i * 8, state[at + i]);
-        i += 1;
     }
     bytes
 }

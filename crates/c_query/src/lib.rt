@@ -11,7 +11,7 @@ ghost use Rattle.c_arguments.specs.Windows.{window_of_bytes};
 ghost use Rattle.c_query.specs.Places.{answer_places, answer_in};
 ghost use Rattle.c_query.specs.Lent.{window_bytes, lent_batch, window_at, windows_of, record_places, LentAnswered};
 
-use answers::Refusal;
+use answers::Reason;
 use batch::{Asked, Batch};
 use boxes::Window;
 use description::Description;
@@ -106,13 +106,11 @@ fn ask_all(
         (windows_of d window_kinds.now windows.now count) out.old }
 {
     let mut used: usize = 0;
-    let mut i: usize = 0;
-    while i < count {
+    for i in 0..count {
         let window = window_at(d, window_kinds, windows, width, i);
         let asked = batch::ask_from(d, tiles, tree, window, out, used);
         put_record(answers, 5 * i, asked, used);
         used = asked.used;
-        i += 1;
     }
 }
 
@@ -144,7 +142,7 @@ fn window_bytes(numbers: &[u8]) -> usize
     let kinds = c_arguments::dimensions_of(numbers);
     let description = Description {
         dimensions: numbers.len() as u64,
-        kinds: kinds,
+        kinds,
         fields: 1,
         capacity: 1,
     };
@@ -157,13 +155,11 @@ fn check_lent(width: usize, bytes: usize, places: usize) -> Batch
     ensures { result ≡ lent_batch width bytes places }
 {
     let count = places / 5;
-    if places == 5 * count {
-        if bytes == count * width {
-            return batch::check_runs(count, count);
-        }
+    if places == 5 * count && bytes == count * width {
+        return batch::check_runs(count, count);
     }
     Batch {
-        number: Refusal::RUNS,
+        number: Reason::Runs.number(),
         place: 0,
         windows: 0,
     }

@@ -1,15 +1,14 @@
 // Mins and maxes as exported functions on numbers and slices. include/tussockbell.h declares them for C.
 #![tactic(auto)]
 
-ghost use Rattle.std.specs.Prelude.{◌≡◌, get_or, take, drop};
-ghost use Rattle.description.specs.Kinds.{is_datatype};
+ghost use Rattle.std.specs.Prelude.{◌≡◌, Some, None, get_or, take, drop};
 ghost use Rattle.var_values.specs.VarValues.{var_values_answer, var_pair_answer, var_place_answer, var_value_of};
 ghost use Rattle.var_values.specs.VarValues.{var_value_answer};
 ghost use Rattle.c_values.specs.Numbered.{numbered_values, numbered_pair, numbered_value};
-ghost use Rattle.c_values.specs.Numbered.{numbered_bounds};
+ghost use Rattle.c_values.specs.Numbered.{numbered_bounds, of_kind};
 ghost use Rattle.c_values.specs.Places.{values_places, ranges_places, range_places, part_places};
 
-use answers::Refusal;
+use answers::Reason;
 use description::Kind;
 use lists::Extent;
 use tile_metadata::{TileValues, TwoBodies};
@@ -28,10 +27,9 @@ pub extern "C" fn tussockbell_values(kind: u64, tiles: u64, body: &[u8], answer:
 pub extern "C" fn tussockbell_value(kind: u64, tiles: u64, body: &[u8], tile: u64) -> u64
     ensures { result ≡ numbered_value kind tiles body.now tile }
 {
-    if is_kind(kind) {
-        tile_values::tile_value(Kind::of(kind), tiles, body, tile)
-    } else {
-        0
+    match known(kind) {
+        Some(kind) => tile_values::tile_value(kind, tiles, body, tile),
+        None => 0,
     }
 }
 
@@ -102,39 +100,40 @@ pub extern "C" fn tussockbell_var_ranges(
 fn numbered_values(kind: u64, tiles: u64, body: &[u8]) -> TileValues
     ensures { result ≡ numbered_values kind tiles body.now }
 {
-    if is_kind(kind) {
-        tile_values::open_values(Kind::of(kind), tiles, body)
-    } else {
-        tile_metadata::answered(tiles, Refusal::new(Refusal::DESCRIPTION, 0))
+    match known(kind) {
+        Some(kind) => tile_values::open_values(kind, tiles, body),
+        None => TileValues::told(tiles, Err(Reason::Description.at(0))),
     }
 }
 
 fn numbered_pair(kind: u64, tiles: u64, mins: &[u8], maxes: &[u8]) -> TwoBodies
     ensures { result ≡ numbered_pair kind tiles mins.now maxes.now }
 {
-    if is_kind(kind) {
-        tile_values::open_pair(Kind::of(kind), tiles, mins, maxes)
-    } else {
-        let first = Refusal::new(Refusal::DESCRIPTION, 0);
-        tile_metadata::together(tiles, first, Refusal::none())
+    match known(kind) {
+        Some(kind) => tile_values::open_pair(kind, tiles, mins, maxes),
+        None => TwoBodies::told(tiles, Err(Reason::Description.at(0)), Ok(())),
     }
 }
 
 fn numbered_bounds(kind: u64, tiles: u64, mins: &[u8], maxes: &[u8], tile: u64) -> Bounds
     ensures { result ≡ numbered_bounds kind tiles mins.now maxes.now tile }
 {
-    if is_kind(kind) {
-        tile_values::tile_bounds(Kind::of(kind), tiles, mins, maxes, tile)
-    } else {
-        Bounds { min: 0, max: 0 }
+    match known(kind) {
+        Some(kind) => tile_values::tile_bounds(kind, tiles, mins, maxes, tile),
+        None => Bounds { min: 0, max: 0 },
     }
 }
 
-// Is a number some kind's?
-fn is_kind(number: u64) -> bool
-    ensures { result ≡ is_datatype number }
+// The kind that a number is some kind's.
+fn known(number: u64) -> Option<Kind>
+    ensures { result ≡ of_kind number (λ kind. Some kind) None }
 {
-    number == Kind::of(number).datatype()
+    let kind = Kind::of(number);
+    if number == kind.datatype() {
+        Some(kind)
+    } else {
+        None
+    }
 }
 
 fn values_places(r: TileValues) -> [u64; 3]

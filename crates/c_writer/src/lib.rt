@@ -6,6 +6,8 @@ ghost use Rattle.written.specs.Writing.{length_answer, write_answer, write_buffe
 ghost use Rattle.c_arguments.specs.Described.{describe};
 ghost use Rattle.c_writer.specs.Places.{written_places};
 
+use written::Written;
+
 // Writes a whole tree.
 #[unsafe(no_mangle)]
 pub extern "C" fn tussockbell_write_tree(
@@ -25,7 +27,7 @@ pub extern "C" fn tussockbell_write_tree(
         (describe kinds.now fields capacity) tiles fanout leaves.now out.old }
 {
     let d = c_arguments::describe(kinds, fields, capacity);
-    let r = writer::write(d, tiles, fanout, leaves, out);
+    let r = Written::from(writer::write(d, tiles, fanout, leaves, out));
     *answer = [r.number, r.place, r.length];
 }
 
@@ -43,6 +45,6 @@ pub extern "C" fn tussockbell_tree_length(
         (describe kinds.now fields capacity) tiles fanout) }
 {
     let d = c_arguments::describe(kinds, fields, capacity);
-    let r = leaves::body_length(d, tiles, fanout);
+    let r = Written::from(leaves::body_length(d, tiles, fanout));
     *answer = [r.number, r.place, r.length];
 }

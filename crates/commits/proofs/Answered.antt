@@ -1,6 +1,6 @@
 -- The empty arrays, and the answer of a refused and of an accepted listing.
 -- Assumes nothing.
-use mathlib.Core.Path.{◌≡◌, ◌∙◌}
+use mathlib.Core.Path.{◌≡◌, ap, ◌∙◌}
 use mathlib.Core.Bool.{false}
 use mathlib.Core.List.{List}
 use Prim.Native.Nat.{ℕ}
@@ -9,21 +9,29 @@ use lib.Dec.{eqb}
 use lib.ListN.{length, replicate, length-replicate, get_or-replicate}
 use lib.Seq.{take-nil}
 use borrow.Author.Tests.{ne_eqb}
+use Rattle.answers.specs.declared.Refusal.{Refusal}
+use Rattle.answers.specs.declared.Refused.{Refused}
 use Rattle.answers.specs.Refusals.{none}
+use Rattle.answers.specs.Told.{said}
+use Rattle.answers.proofs.Told.{refuses}
 use Rattle.answers.specs.Laid.{laid}
-use Rattle.answers.proofs.Checks.{each_none}
 use Rattle.text.specs.Text.{Bytes, lines}
 use Rattle.commits.specs.declared.Committed.{Committed}
-use Rattle.commits.specs.Committed.{lines_listed, line_refusal, listing_refusal, committed_lines, committed_answer}
+use Rattle.commits.specs.Committed.{lines_listed, listing_refusal, committed_lines, committed_answer}
 use Rattle.commits.specs.Alike.{AlikeListings}
-use Rattle.commits.specs.Code.Index.{last_in, Index}
+use Rattle.commits.specs.declared.Row.{Row}
+use Rattle.commits.specs.Code.Index.{no_row, last_in, Index}
 use Rattle.commits.proofs.Alike.{same-names-of}
 
-pub no_lines : (t : Bytes)
-    → Index t 0 (replicate 5120 0) (replicate 1024 0) (replicate 1024 0)
+pub no_lines : (t : Bytes) → Index t 0 (replicate 1024 no_row) (replicate 1024 0) (replicate 1024 0)
 unfolding last_in
 no_lines t = record {
-  table = record { size = length-replicate {A = ℕ} 5120 0; few = omega arith; there = omega arith; row = λ i h. absurd (omega arith) };
+  table = record {
+    size = length-replicate {A = Row} 1024 no_row;
+    few = omega arith;
+    there = omega arith;
+    row = λ i h. absurd (omega arith);
+  };
   chains = record { size = length-replicate {A = ℕ} 1024 0; leads = λ i h. absurd (omega arith) };
   ends = record { size = length-replicate {A = ℕ} 1024 0; last = λ h l. get_or-replicate {A = ℕ} 1024 h 0 0 l };
 }
@@ -35,17 +43,15 @@ module _ (t : Bytes) (time : ℕ) (out : List ℕ) where
   answers : {r : Committed} {after : List ℕ} → r ≡ committed_answer t time → after ≡ laid (committed_lines t time) out → Answers r after
   answers e f = (e, (f, same-names-of t time out e f))
 
-  pub refused : (number place : ℕ) → number ≡ (listing_refusal (lines t)).number → place ≡ (listing_refusal (lines t)).place → (number ≡ 0 → ⊥)
-      → Answers (record { number = number; place = place; found = 0 }) out
+  pub refused : (e : Refused) {number : ℕ} → said e ≡ listing_refusal (lines t) → number ≡ (said e).number
+      → Answers (record { number = number; place = e.place; found = 0 }) out
   unfolding committed_answer committed_lines
-  refused number place n p h =
-      let z : eqb (listing_refusal (lines t)).number 0 ≡ false = ne_eqb (listing_refusal (lines t)).number 0 (λ e. h (n ∙ e)) in
-      answers (rw (z, ← n, ← p)) (rw (z, take-nil (length out)))
+  refused e is n =
+      let z : eqb (listing_refusal (lines t)).number 0 ≡ false = ne_eqb (listing_refusal (lines t)).number 0 (λ q. refuses e (ap (λ (r : Refusal). r.number) is ∙ q)) in
+      answers (rw (z, ← is, n)) (rw (z, take-nil (length out)))
 
-  pub accepted : (listing_refusal (lines t)).number ≡ 0 → (found : ℕ) (after : List ℕ) → found ≡ length (lines_listed time (lines t))
+  pub accepted : listing_refusal (lines t) ≡ none → (found : ℕ) (after : List ℕ) → found ≡ length (lines_listed time (lines t))
       → after ≡ laid (lines_listed time (lines t)) out
       → Answers (record { number = 0; place = 0; found = found }) after
-  unfolding committed_answer committed_lines listing_refusal
-  accepted h found after f a =
-      let z : listing_refusal (lines t) ≡ none = each_none (line_refusal (lines t)) 0 (length (lines t)) h in
-      answers (rw (z, f)) (rw (z) a)
+  unfolding committed_answer committed_lines
+  accepted z found after f a = answers (rw (z, f)) (rw (z) a)

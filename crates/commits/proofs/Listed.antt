@@ -1,9 +1,10 @@
 -- Which lines are listed, as the code asks; and the numbers of those lines, written one by one.
 -- Assumes nothing.
 use mathlib.Core.Path.{◌≡◌, refl, ap, sym, ◌∙◌}
-use mathlib.Core.Bool.{Bool, true, false, cond, ◌&&◌}
+use mathlib.Core.Bool.{Bool, true, false, cond, ◌&&◌, not, true≢false, false≢true}
+use denote.Enum.Bare.{sameb}
 use mathlib.Core.List.{List, [], ◌∷◌}
-use Prim.Native.Nat.{ℕ, ◌+◌, ◌-◌, ◌*◌, ◌≤◌, ◌<◌}
+use Prim.Native.Nat.{ℕ, ◌+◌, ◌-◌, ◌≤◌, ◌<◌}
 use native.Mathlib.Numerals.{add-one}
 use native.Mathlib.Omega.{arith}
 use lib.Dec.{eqb}
@@ -15,7 +16,10 @@ use Rattle.answers.proofs.Laid.{sets-whole}
 use Rattle.text.specs.Text.{Bytes, lines}
 use Rattle.commits.specs.Records.{kind_of, name_of, time_of}
 use Rattle.commits.specs.Committed.{names, counts, listed, numbers, line_in}
-use Rattle.commits.specs.Code.Index.{chain_of, last_in, Index}
+use Rattle.commits.specs.declared.Kind.{Kind}
+use Rattle.commits.specs.contracts.Kind.{the_type}
+use Rattle.commits.specs.declared.Row.{Row}
+use Rattle.commits.specs.Code.Index.{kind_code, chain_of, last_in, row_at, Index}
 
 and-false : (a : Bool) → (a && false) ≡ false
 and-false true = refl
@@ -43,18 +47,31 @@ pub names-whole : (kind n : ℕ) (ls : List Bytes) (slice name : Bytes) (r : Boo
     → r ≡ names kind ls name
 names-whole kind n ls slice name r e f h = h ∙ rw (take_all n ls (omega arith), f)
 
-pub head_of : {t : Bytes} {n : ℕ} {rows next heads : List ℕ} → Index t n rows next heads → (h : ℕ) (name : Bytes) → h ≡ chain_of name → h < 1024 → get_or heads h 0 ≡ last_in (lines t) (chain_of name) n
+pub head_of : {t : Bytes} {n : ℕ} {rows : List Row} {next heads : List ℕ} → Index t n rows next heads → (h : ℕ) (name : Bytes) → h ≡ chain_of name → h < 1024 → get_or heads h 0 ≡ last_in (lines t) (chain_of name) n
 head_of x h name e l = x.ends.last h l ∙ rw e
 
 -- a row's chain, and the last line of it
-module _ {t : Bytes} {n : ℕ} {rows next heads : List ℕ} (x : Index t n rows next heads) (i : ℕ) (h : i < n) where
-  pub row-chain : get_or rows (5 * i + 4) 0 < 1024
+module _ {t : Bytes} {n : ℕ} {rows : List Row} {next heads : List ℕ} (x : Index t n rows next heads) (i : ℕ) (h : i < n) where
+  pub row-chain : (row_at rows i).chain < 1024
   unfolding chain_of
   row-chain = rw (x.table.row i h).in-chain (omega arith)
 
-  pub row-head : get_or heads (get_or rows (5 * i + 4) 0) 0
-      ≡ last_in (lines t) (chain_of (take (get_or rows (5 * i + 1) 0 - get_or rows (5 * i) 0) (drop (get_or rows (5 * i) 0) t))) n
-  row-head = x.ends.last (get_or rows (5 * i + 4) 0) row-chain ∙ rw ((x.table.row i h).in-chain, (x.table.row i h).name)
+  pub row-head : get_or heads (row_at rows i).chain 0
+      ≡ last_in (lines t) (chain_of (take ((row_at rows i).end - (row_at rows i).start) (drop (row_at rows i).start t))) n
+  row-head = x.ends.last (row_at rows i).chain row-chain ∙ rw ((x.table.row i h).in-chain, (x.table.row i h).name)
+
+-- a kind that is a folder's, or another
+pub folder-kind : (k : Kind) → false ≡ not (sameb the_type k Kind.Folder) → kind_code k ≡ 0
+folder-kind Kind.Folder e = refl
+folder-kind Kind.Wrt e = absurd (false≢true e)
+folder-kind Kind.Con e = absurd (false≢true e)
+folder-kind Kind.Ign e = absurd (false≢true e)
+
+pub other-kind : (k : Kind) → true ≡ not (sameb the_type k Kind.Folder) → kind_code k ≡ 0 → ⊥
+other-kind Kind.Folder e z = true≢false e
+other-kind Kind.Wrt e z = omega arith
+other-kind Kind.Con e z = omega arith
+other-kind Kind.Ign e z = omega arith
 
 -- ---- the loop over the lines: those still to be written, over what stands there now, are all of them over what stood there first
 pub record Left (test : Bytes → Bool) (ls : List Bytes) (first out : List ℕ) (found i : ℕ) : Type 0 where

@@ -1,7 +1,6 @@
 -- What is a record? A kind and a name, parted by a tab.
 -- Assumes nothing.
-use Rattle.std.specs.Prelude.{ℕ, ◌-◌, ◌^◌, Bool, cond, ◌&&◌, ◌||◌, [], ◌∷◌, leb, ltb, eqb, length}
-use Rattle.decimal.specs.declared.Number.{Number}
+use Rattle.std.specs.Prelude.{ℕ, ◌-◌, ◌^◌, Bool, false, cond, ◌&&◌, ◌||◌, [], ◌∷◌, leb, ltb, eqb, length, Option, Some, None, unwrap_or}
 use Rattle.decimal.specs.Decimal.{is_digit}
 use Rattle.decimal.specs.Read.{read_number}
 use Rattle.text.specs.Text.{Bytes, tab, parts, part, same, every}
@@ -53,14 +52,16 @@ unfoldable pub is_uuid : Bytes → Bool
 is_uuid u = leb 1 (length u) && (leb (length u) 64 && every is_uuid_byte u)
 
 -- "decimal without leading zeros, below 2^63"
-abbrev pub time_in : Bytes → Number
+abbrev pub time_in : Bytes → Option ℕ
 time_in t = read_number (2 ^ 63 - 1) t
 
-abbrev pub are_times : Number → Number → Bool
-are_times a b = a.read && (b.read && leb a.value b.value)
+abbrev pub are_times : Option ℕ → Option ℕ → Bool
+are_times None b = false
+are_times (Some a) None = false
+are_times (Some a) (Some b) = leb a b
 
--- "v 16 to 21": where it is no number of at most 21, the value is 0
-abbrev pub version_in : Bytes → Number
+-- "v 16 to 21": a number of at most 21, and at least 16
+abbrev pub version_in : Bytes → Option ℕ
 version_in v = read_number 21 v
 
 -- '_'
@@ -78,11 +79,11 @@ is_name name =
     && (eqb (length (piece 1 name)) 0
     && (are_times (time_in (piece 2 name)) (time_in (piece 3 name))
     && (is_uuid (piece 4 name)
-    && leb 16 (version_in (piece 5 name)).value))))
+    && leb 16 (unwrap_or (version_in (piece 5 name)) 0)))))
 
 -- t2
 unfoldable pub time_of : Bytes → ℕ
-time_of name = (time_in (piece 3 name)).value
+time_of name = unwrap_or (time_in (piece 3 name)) 0
 
 -- "kind and name parted by a tab"
 unfoldable pub kind_of : Bytes → ℕ

@@ -1,17 +1,18 @@
 // Only committed fragments: the folders of a listing that count.
 #![tactic(auto)]
 
-ghost use Rattle.std.specs.Prelude.{◌≡◌, ◌-◌, ◌≤◌, ◌<◌, length, take, drop};
+ghost use Rattle.std.specs.Prelude.{◌≡◌, ◌-◌, ◌≤◌, ◌<◌, MatchOption, MatchResult, false, length, take};
 ghost use Rattle.answers.specs.Laid.{laid};
+ghost use Rattle.answers.specs.Told.{said};
 ghost use Rattle.text.specs.Text.{lines};
-ghost use Rattle.commits.specs.Records.{kind_number, is_uuid_byte, is_uuid};
+ghost use Rattle.commits.specs.Records.{kind_number, is_uuid_byte, is_uuid, is_record};
 ghost use Rattle.commits.specs.Committed.{line_in, bears, names, listed, lines_listed, committed_lines};
-ghost use Rattle.commits.specs.Committed.{committed_answer};
+ghost use Rattle.commits.specs.Committed.{listing_refusal, committed_answer};
 ghost use Rattle.commits.specs.Alike.{AlikeListings};
-ghost use Rattle.commits.specs.Code.Index.{ReadName, ReadRecord, chain_of, last_in, rows_with};
+ghost use Rattle.commits.specs.Code.Index.{kind_code, number_read, name_read, ReadRecord, chain_of, last_in};
 ghost use Rattle.commits.specs.Code.Index.{Table, Chains, Index, ReadListing};
 
-use answers::Refusal;
+use answers::{Reason, Refused};
 
 const MOST_LINES: usize = 1024;
 
@@ -43,123 +44,103 @@ pub fn find_committed(listing: &[u8], time: u64, out: &mut [u32]) -> Committed
     ensures buffer { out.new ≡ laid (committed_lines listing.now time) out.old }
     ensures alike { AlikeListings listing.now time result.found out.new }
 {
-    let mut rows = [0usize; 5120];
+    let mut rows = [NO_ROW; 1024];
     let mut next = [0usize; 1024];
     let mut heads = [0usize; 1024];
-    let read = index(listing, &mut rows, &mut next, &mut heads);
-    if read.number != 0 {
-        return Committed {
-            number: read.number,
-            place: read.place,
+    match index(listing, &mut rows, &mut next, &mut heads) {
+        Err(refused) => Committed {
+            number: refused.reason.number(),
+            place: refused.place,
             found: 0,
-        };
-    }
-    let found = write(
-        listing,
-        time as usize,
-        read.count,
-        &rows,
-        &next,
-        &heads,
-        out,
-    );
-    Committed {
-        number: 0,
-        place: 0,
-        found: found as u64,
+        },
+        Ok(count) => {
+            let found = write(listing, time, count, &rows, &next, &heads, out);
+            Committed {
+                number: 0,
+                place: 0,
+                found: found as u64,
+            }
+        }
     }
 }
 
-// A refusal, or how many lines there are.
+// A line as it is kept: where its name starts and ends, its kind, t2, and its chain.
 #[derive(Clone, Copy)]
-struct Indexed {
-    number: u64,
-    place: u64,
-    count: usize,
+struct Row {
+    start: usize,
+    end: usize,
+    kind: Kind,
+    time: u64,
+    chain: usize,
 }
 
-// Line by line: each is read, looked for among the earlier ones, and kept. A row is five numbers: where the line's name
-// starts, where it ends, the kind, t2, and its chain. `heads` has the last line of each chain, counted from 1, and
-// `next` the line before a line in its chain.
+const NO_ROW: Row = Row {
+    start: 0,
+    end: 0,
+    kind: Kind::Folder,
+    time: 0,
+    chain: 0,
+};
+
+// Line by line: each is read, looked for among the earlier ones, and kept. `heads` has the last line of each chain,
+// counted from 1, and `next` the line before a line in its chain: a walk along a chain reads no other bytes. The answer
+// is how many lines there are.
 fn index(
     text: &[u8],
-    rows: &mut [usize; 5120],
+    rows: &mut [Row; 1024],
     next: &mut [usize; 1024],
     heads: &mut [usize; 1024],
-) -> Indexed
+) -> Result<usize, Refused>
     requires { Index text.now 0 rows.old next.old heads.old }
-    ensures { ReadListing text.now result rows.new next.new heads.new }
+    ensures { MatchResult result (λ n. ReadListing text.now n rows.new next.new heads.new)
+        (λ e. said e ≡ listing_refusal (lines text.now)) }
 {
     let mut at: usize = 0;
     let mut n: usize = 0;
     while at < text.len() {
+        let place = n as u64;
         if n == MOST_LINES {
-            return ended(Refusal::BAD_LINE, n, 0);
+            return Err(Reason::BadLine.at(place));
         }
         let end = text::piece_end(text, at, b'\n');
-        let line = read_record(&text[at..end]);
-        if !line.good {
-            return ended(Refusal::BAD_LINE, n, 0);
-        }
-        let start = at + line.name;
+        let Some(record) = read_record(&text[at..end]) else {
+            return Err(Reason::BadLine.at(place));
+        };
+        let start = at + record.name;
         let name = &text[start..end];
         let chain = chain_of(name);
         let head = heads[chain];
-        if named(text, rows, next, n, head, line.kind, name) {
-            return ended(Refusal::REPEATED, n, 0);
+        if named(text, rows, next, n, head, record.kind, name) {
+            return Err(Reason::Repeated.at(place));
         }
         next[n] = head;
         heads[chain] = n + 1;
-        put_row(rows, n, start, end, line.kind, line.time, chain);
+        rows[n] = Row {
+            start,
+            end,
+            kind: record.kind,
+            time: record.time,
+            chain,
+        };
         n += 1;
         at = text::after(text, end);
     }
-    ended(0, 0, n)
-}
-
-// How the reading of a listing ended.
-fn ended(number: u64, line: usize, count: usize) -> Indexed
-    ensures { result ≡ record { number = number; place = line; count = count } }
-{
-    Indexed {
-        number,
-        place: line as u64,
-        count,
-    }
-}
-
-fn put_row(
-    rows: &mut [usize; 5120],
-    i: usize,
-    start: usize,
-    end: usize,
-    kind: usize,
-    time: usize,
-    chain: usize,
-)
-    requires { i < 1024 }
-    ensures { rows.new ≡ rows_with rows.old i start end kind time chain }
-{
-    rows[5 * i] = start;
-    rows[5 * i + 1] = end;
-    rows[5 * i + 2] = kind;
-    rows[5 * i + 3] = time;
-    rows[5 * i + 4] = chain;
+    Ok(n)
 }
 
 // Does one of the first n lines, of that kind, have that name? Only the lines of its chain are looked at.
 fn named(
     text: &[u8],
-    rows: &[usize; 5120],
+    rows: &[Row; 1024],
     next: &[usize; 1024],
     n: usize,
     head: usize,
-    kind: usize,
+    kind: Kind,
     name: &[u8],
 ) -> bool
     requires { (Table text.now n rows.now) × (Chains text.now n next.now)
         × (head ≡ last_in (lines text.now) (chain_of name.now) n) }
-    ensures { result ≡ names kind (take n (lines text.now)) name.now }
+    ensures { result ≡ names (kind_code kind) (take n (lines text.now)) name.now }
 {
     let mut at = head;
     while at != 0 {
@@ -173,24 +154,20 @@ fn named(
 }
 
 // Has line i, one of the first n, that kind and that name?
-fn bears(text: &[u8], rows: &[usize; 5120], n: usize, i: usize, kind: usize, name: &[u8]) -> bool
+fn bears(text: &[u8], rows: &[Row; 1024], n: usize, i: usize, kind: Kind, name: &[u8]) -> bool
     requires { (Table text.now n rows.now) × (i < n) }
-    ensures { result ≡ bears kind name.now (line_in (lines text.now) i) }
+    ensures { result ≡ bears (kind_code kind) name.now (line_in (lines text.now) i) }
 {
-    if rows[5 * i + 2] != kind {
-        return false;
-    }
-    let start = rows[5 * i];
-    let end = rows[5 * i + 1];
-    text::same(&text[start..end], name)
+    let row = rows[i];
+    row.kind == kind && text::same(&text[row.start..row.end], name)
 }
 
 // The line numbers of the folders that count, in order, as many as fit; answers how many there are.
 fn write(
     text: &[u8],
-    time: usize,
+    time: u64,
     n: usize,
-    rows: &[usize; 5120],
+    rows: &[Row; 1024],
     next: &[usize; 1024],
     heads: &[usize; 1024],
     out: &mut [u32],
@@ -200,13 +177,11 @@ fn write(
     ensures buffer { out.new ≡ laid (lines_listed time (lines text.now)) out.old }
 {
     let mut found: usize = 0;
-    let mut i: usize = 0;
-    while i < n {
+    for i in 0..n {
         if wanted(text, time, n, rows, next, heads, i) {
             answers::keep(out, found, i as u32);
             found += 1;
         }
-        i += 1;
     }
     found
 }
@@ -214,9 +189,9 @@ fn write(
 // Is line i a folder that counts, no later than `time`?
 fn wanted(
     text: &[u8],
-    time: usize,
+    time: u64,
     n: usize,
-    rows: &[usize; 5120],
+    rows: &[Row; 1024],
     next: &[usize; 1024],
     heads: &[usize; 1024],
     i: usize,
@@ -224,20 +199,18 @@ fn wanted(
     requires { (Index text.now n rows.now next.now heads.now) × (n ≡ length (lines text.now)) × (i < n) }
     ensures { result ≡ listed time (lines text.now) (line_in (lines text.now) i) }
 {
-    if rows[5 * i + 2] != FOLDER {
+    let row = rows[i];
+    if row.kind != Kind::Folder {
         return false;
     }
-    if time < rows[5 * i + 3] {
+    if time < row.time {
         return false;
     }
-    let start = rows[5 * i];
-    let end = rows[5 * i + 1];
-    let name = &text[start..end];
-    let chain = rows[5 * i + 4];
-    let head = heads[chain];
-    let wrt = named(text, rows, next, n, head, WRT, name);
-    let con = named(text, rows, next, n, head, CON, name);
-    let ign = named(text, rows, next, n, head, IGN, name);
+    let name = &text[row.start..row.end];
+    let head = heads[row.chain];
+    let wrt = named(text, rows, next, n, head, Kind::Wrt, name);
+    let con = named(text, rows, next, n, head, Kind::Con, name);
+    let ign = named(text, rows, next, n, head, Kind::Ign, name);
     wrt | (con & !ign)
 }
 
@@ -245,101 +218,74 @@ fn wanted(
 fn chain_of(name: &[u8]) -> usize
     ensures { (result ≡ chain_of name.now) × (result < 1024) }
 {
-    let size = name.len();
+    let last = &name[name.len().saturating_sub(HASHED)..];
     let mut hash: usize = 0;
-    let mut i = hashed_from(size);
-    while i < size {
-        hash = (31 * hash + name[i] as usize) % 0x1_0000_0000;
-        i += 1;
+    for b in last {
+        hash = (31 * hash + *b as usize) % 0x1_0000_0000;
     }
     hash % 1024
 }
 
-fn hashed_from(size: usize) -> usize
-    ensures { result ≡ size - 32 }
-{
-    if HASHED < size { size - HASHED } else { 0 }
+#[derive(Clone, Copy, PartialEq, Eq)]
+enum Kind {
+    Folder,
+    Wrt,
+    Con,
+    Ign,
 }
-
-// The kinds as numbers, and one that is none.
-const FOLDER: usize = 0;
-
-const WRT: usize = 1;
-
-const CON: usize = 2;
-
-const IGN: usize = 3;
-
-const NO_KIND: usize = 4;
 
 // A line as a record: its kind, where its name starts, and t2.
 #[derive(Clone, Copy)]
 struct Record {
-    good: bool,
-    kind: usize,
+    kind: Kind,
     name: usize,
-    time: usize,
+    time: u64,
 }
 
-const NO_RECORD: Record = Record {
-    good: false,
-    kind: NO_KIND,
-    name: 0,
-    time: 0,
-};
-
-fn read_record(line: &[u8]) -> Record
-    ensures { ReadRecord line.now result }
+fn read_record(line: &[u8]) -> Option<Record>
+    ensures { MatchOption result (is_record line.now ≡ false) (ReadRecord line.now) }
 {
     let size = line.len();
     if MOST_BYTES < size {
-        return NO_RECORD;
+        return None;
     }
     let first = text::piece_end(line, 0, b'\t');
     let start = first + 1;
     let end = text::piece_end(line, start, b'\t');
     if end != size {
-        return NO_RECORD;
+        return None;
     }
-    let kind = kind_number(&line[..first]);
-    let name = read_name(&line[start..end]);
-    Record {
-        good: (kind < NO_KIND) & name.good,
+    let kind = read_kind(&line[..first])?;
+    let time = read_name(&line[start..end])?;
+    Some(Record {
         kind,
         name: start,
-        time: name.time as usize,
-    }
+        time,
+    })
 }
 
-fn kind_number(text: &[u8]) -> usize
-    ensures { result ≡ kind_number text.now }
+fn read_kind(text: &[u8]) -> Option<Kind>
+    ensures { number_read result ≡ kind_number text.now }
 {
     if text::same(text, b"folder") {
-        return FOLDER;
+        return Some(Kind::Folder);
     }
     if text::same(text, b"wrt") {
-        return WRT;
+        return Some(Kind::Wrt);
     }
     if text::same(text, b"con") {
-        return CON;
+        return Some(Kind::Con);
     }
     if text::same(text, b"ign") {
-        return IGN;
+        return Some(Kind::Ign);
     }
-    NO_KIND
+    None
 }
 
-// A name, and its t2.
-#[derive(Clone, Copy)]
-struct Name {
-    good: bool,
-    time: u64,
-}
-
-// An uuid has no underscore, so a name is six parts, of which the first two are empty.
-fn read_name(name: &[u8]) -> Name
+// The t2 of a name. An uuid has no underscore, so a name is six parts, of which the first two are empty.
+fn read_name(name: &[u8]) -> Option<u64>
     requires { length name.now ≤ 255 }
-    ensures { ReadName name.now result }
+    ensures { result ≡ name_read name.now }
 {
     let end_0 = text::piece_end(name, 0, b'_');
     let at_1 = end_0 + 1;
@@ -353,21 +299,15 @@ fn read_name(name: &[u8]) -> Name
     let at_5 = end_4 + 1;
     let end_5 = text::piece_end(name, at_5, b'_');
     if end_5 != name.len() {
-        return Name {
-            good: false,
-            time: 0,
-        };
+        return None;
     }
-    let first = decimal::read_at_most(&name[at_2..end_2], MOST_TIME);
-    let last = decimal::read_at_most(&name[at_3..end_3], MOST_TIME);
+    let first = decimal::read_at_most(&name[at_2..end_2], MOST_TIME)?;
+    let last = decimal::read_at_most(&name[at_3..end_3], MOST_TIME)?;
+    let version = decimal::read_at_most(&name[at_5..end_5], MOST_VERSION)?;
     let uuid = is_uuid(&name[at_4..end_4]);
-    let version = decimal::read_at_most(&name[at_5..end_5], MOST_VERSION);
-    let times = first.read & (last.read & (first.value <= last.value));
-    Name {
-        good: (end_0 == 0)
-            & ((end_1 == at_1) & (times & (uuid & (LEAST_VERSION <= version.value)))),
-        time: last.value,
-    }
+    let fits = (first <= last) & (uuid & (LEAST_VERSION <= version));
+    let good = (end_0 == 0) & ((end_1 == at_1) & fits);
+    good.then_some(last)
 }
 
 fn is_uuid(text: &[u8]) -> bool
@@ -380,12 +320,10 @@ fn is_uuid(text: &[u8]) -> bool
     if MOST_UUID < size {
         return false;
     }
-    let mut i = 0;
-    while i < size {
-        if !is_uuid_byte(text[i]) {
+    for b in text {
+        if !is_uuid_byte(*b) {
             return false;
         }
-        i += 1;
     }
     true
 }
@@ -393,8 +331,5 @@ fn is_uuid(text: &[u8]) -> bool
 fn is_uuid_byte(b: u8) -> bool
     ensures { result ≡ is_uuid_byte b }
 {
-    let digit = (b'0' <= b) & (b <= b'9');
-    let capital = (b'A' <= b) & (b <= b'Z');
-    let small = (b'a' <= b) & (b <= b'z');
-    digit | (capital | (small | (b == b'-')))
+    b.is_ascii_alphanumeric() || b == b'-'
 }

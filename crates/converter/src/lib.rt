@@ -20,8 +20,9 @@ ghost use Rattle.widened.specs.Converting.{converted, convert_answer, convert_le
 ghost use Rattle.widened.specs.Footers.{widened_footer, footer_converted, footer_buffer};
 ghost use Rattle.converter.specs.Code.Levels.{boxes_from, Run, Filling, FooterFilling};
 
-use answers::Refusal;
+use answers::{Reason, Refusal};
 use description::{Description, Dimension, Kind};
+use floats::Float;
 use footer::Entry;
 use rtree::Opened;
 use widened::Converted;
@@ -44,7 +45,7 @@ pub fn convert(
         return told;
     }
     if (out.len() as u64) < told.length {
-        return answer(Refusal::ROOM, 0, 0, 0);
+        return answer(Reason::Room.number(), 0, 0, 0);
     }
     put_body(out, description, footer, body);
     told
@@ -89,7 +90,7 @@ pub fn convert_footer(
     let wide = widened(description).box_bytes();
     let whole = footer.len() - old + wide;
     if out.len() < whole {
-        return answer(Refusal::ROOM, 0, 0, 0);
+        return answer(Reason::Room.number(), 0, 0, 0);
     }
     put_footer(out, description, told.domain as usize, old, wide, footer);
     answer(0, 0, 0, whole as u64)
@@ -147,13 +148,11 @@ fn put_levels(
 {
     let mut from: usize = 8;
     let mut at: usize = 8;
-    let mut l: usize = 0;
-    while l < depth {
+    for l in 0..depth {
         let count = order::u64_at(body, from) as usize;
         put_level(out, at, description, old, wide, body, from, count);
         from += 8 + count * old;
         at += 8 + count * wide;
-        l += 1;
     }
 }
 
@@ -216,11 +215,7 @@ pub fn widened(description: Description) -> Description
 fn widened_kinds(kinds: [Dimension; 4]) -> [Dimension; 4]
     ensures { result ≡ widened_kinds kinds }
 {
-    let a = widened_dimension(kinds[0]);
-    let b = widened_dimension(kinds[1]);
-    let c = widened_dimension(kinds[2]);
-    let d = widened_dimension(kinds[3]);
-    [a, b, c, d]
+    kinds.map(widened_dimension)
 }
 
 fn widened_dimension(d: Dimension) -> Dimension
@@ -259,11 +254,9 @@ fn put_boxes(
     ensures { out.new ≡ sets out.old at
         (boxes_from description body.now from count) }
 {
-    let mut k: usize = 0;
-    while k < count {
+    for k in 0..count {
         let here = from + k * old;
         put_box(out, at + k * wide, description, &body[here..here + old]);
-        k += 1;
     }
 }
 
@@ -278,14 +271,11 @@ fn put_box(out: &mut [u8], at: usize, description: Description, bytes: &[u8])
     let n = description::sides_of(description.dimensions);
     let mut from: usize = 0;
     let mut to = at;
-    let mut i: usize = 0;
-    while i < n {
-        let d = kinds[i];
-        let kind = d.kind;
+    for i in 0..n {
+        let kind = kinds[i].kind;
         put_side(out, to, kind, bytes, from);
         from += kind.range_bytes();
         to += widened_kind(kind).range_bytes();
-        i += 1;
     }
 }
 
@@ -301,10 +291,10 @@ fn put_side(out: &mut [u8], at: usize, kind: Kind, bytes: &[u8], from: usize)
             put_widened(&mut out[at..at + 16], &bytes[from..from + 8]);
         }
         Kind::Int32 => {
-            put_eight(&mut out[at..at + 8], &bytes[from..from + 8]);
+            out[at..at + 8].copy_from_slice(&bytes[from..from + 8]);
         }
         Kind::Int64 | Kind::Float64 | Kind::Uint64 => {
-            put_sixteen(&mut out[at..at + 16], &bytes[from..from + 16]);
+            out[at..at + 16].copy_from_slice(&bytes[from..from + 16]);
         }
     }
 }
@@ -313,33 +303,16 @@ fn put_widened(out: &mut [u8], bytes: &[u8])
     requires { length out.old ≡ 16 }
     ensures { out.new ≡ widened_side Kind.Float32 bytes.now 0 }
 {
-    let ends = order::pair32_at(bytes, 0);
+    let ends = order::pair_at::<u32>(bytes, 0);
     order::put_u64(out, 0, widen(ends.low));
     order::put_u64(out, 8, widen(ends.high));
-}
-
-fn put_eight(out: &mut [u8], bytes: &[u8])
-    requires out_len { length out.old ≡ 8 }
-    requires bytes_len { length bytes.now ≡ 8 }
-    ensures { out.new ≡ bytes.now }
-{
-    order::put_u64(out, 0, order::u64_at(bytes, 0));
-}
-
-fn put_sixteen(out: &mut [u8], bytes: &[u8])
-    requires out_len { length out.old ≡ 16 }
-    requires bytes_len { length bytes.now ≡ 16 }
-    ensures { out.new ≡ bytes.now }
-{
-    order::put_u64(out, 0, order::u64_at(bytes, 0));
-    order::put_u64(out, 8, order::u64_at(bytes, 8));
 }
 
 // The float64 pattern of a float32 pattern's value.
 pub fn widen(p: u32) -> u64
     ensures { result ≡ widened_pattern p }
 {
-    if floats::f32_nan_pattern(p) {
+    if f32::nan_pattern(p) {
         return 0x7ff8_0000_0000_0000;
     }
     let x = f32::from_bits(p);

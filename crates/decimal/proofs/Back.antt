@@ -12,7 +12,9 @@ use lib.Dec.{leb, ltb, eqb, lit<}
 use lib.ListN.{length, get_or, get_or-append}
 use borrow.Author.Tests.{lt-ltb, le-leb, leb-true, ne_eqb}
 use Rattle.decimal.specs.Decimal.{decimal, value_from, value_of, is_digit, all_digits, starts_well, is_decimal, zero_byte, nine_byte}
-use Rattle.decimal.specs.Read.{read_as, no_number, read_number}
+use Rattle.std.specs.Prelude.{Some, None}
+use Rattle.std.proofs.lemmas.Option.{none-some, same_Some}
+use Rattle.decimal.specs.Read.{read_number}
 use Rattle.decimal.proofs.Written.{decimal-small, decimal-more, tenth-some, some-digit, by-tenths}
 
 -- ---- tests joined
@@ -139,16 +141,15 @@ decimal-of-value (b ∷ c ∷ t) h =
     ∙ rw (decimal-small (0 + (b - 48)) (omega arith), e)
 
 -- ---- so a text is accepted exactly where it is what its number is written as
-pub read_back : (most n : ℕ) → n ≤ most → read_number most (decimal n) ≡ read_as n
+pub read_back : (most n : ℕ) → n ≤ most → read_number most (decimal n) ≡ Some n
 unfolding read_number
 read_back most n h = rw (decimal-decimal n, value-of-decimal n, le-leb n most h)
 
-pub read-exact : (most : ℕ) (t : List ℕ) → (read_number most t).read ≡ true → decimal (read_number most t).value ≡ t
+pub read-exact : (most : ℕ) (t : List ℕ) (n : ℕ) → read_number most t ≡ Some n → decimal n ≡ t
 unfolding read_number
-read-exact most t = go (is_decimal t) (leb (value_of t) most) (decimal-of-value t)
+read-exact most t n = go (is_decimal t) (leb (value_of t) most) (decimal-of-value t)
   where
-    go : (a b : Bool) → (a ≡ true → decimal (value_of t) ≡ t)
-        → (cond (a && b) (read_as (value_of t)) no_number).read ≡ true → decimal (cond (a && b) (read_as (value_of t)) no_number).value ≡ t
-    go true true e h = e refl
-    go true false e h = absurd (true≢false (sym h))
-    go false b e h = absurd (true≢false (sym h))
+    go : (a b : Bool) → (a ≡ true → decimal (value_of t) ≡ t) → cond (a && b) (Some (value_of t)) None ≡ Some n → decimal n ≡ t
+    go true true e h = rw (← same_Some _ _ h) (e refl)
+    go true false e h = absurd (none-some n h)
+    go false b e h = absurd (none-some n h)

@@ -5,7 +5,7 @@ use Prim.Native.Nat.{ℕ, zero, suc, ◌+◌, ◌-◌, ◌*◌, ◌≤◌, ◌<�
 use native.Mathlib.Nat.{mul_comm, mul_assoc, mul-zero, mul-le-mul_right, mul-one}
 use native.Mathlib.Decide.{dec_le}
 use native.Mathlib.Omega.{arith}
-use Rattle.answers.proofs.Runs.{over_done, over-start, over-left}
+use Rattle.answers.proofs.Runs.{over_done, over-left}
 use Rattle.description.specs.Limits.{most_tiles}
 use Rattle.dense.specs.Grid.{product}
 use Rattle.dense.specs.Code.Spans.{capped}
@@ -36,10 +36,6 @@ capped-right x r = rw (mul_comm x (capped r), mul_comm x r) (capped_left r x)
 pub capped_small : (x : ℕ) → x ≤ most_tiles + 1 → capped x ≡ x
 capped_small x h = omega arith
 
-pub times-fits : (a b : ℕ) → a ≤ most_tiles + 1 → b ≤ most_tiles + 1 → a * b ≤ (most_tiles + 1) * (most_tiles + 1)
-times-fits a b h k =
-    omega (arith, mul-le-mul_right {m = a} {n = most_tiles + 1} b h)
-
 -- a loop over n of them: at i so much is multiplied, and the others are still to come
 pub record Multiplied (g : ℕ → ℕ) (n so i : ℕ) : Type 0 where
   pub within : i ≤ n
@@ -47,11 +43,6 @@ pub record Multiplied (g : ℕ → ℕ) (n so i : ℕ) : Type 0 where
   pub is : capped (so * product g i (n - i)) ≡ capped (product g 0 n)
 
 module _ (g : ℕ → ℕ) (n : ℕ) where
-  pub multiplied-none : Multiplied g n 1 0
-  multiplied-none =
-      let z : 1 * product g 0 (n - 0) ≡ product g 0 (n - 0) = omega arith in
-      record { within = omega arith; small = omega arith; is = rw z (ap capped (sym (over-start ◌*◌ 1 g n))) }
-
   pub multiplied-more : (so i next a : ℕ) → Multiplied g n so i → i < n → a ≡ capped (g i) → next ≡ capped (so * a) → Multiplied g n next (i + 1)
   multiplied-more so i next a p h e f =
       let rest = product g (i + 1) (n - (i + 1)) in

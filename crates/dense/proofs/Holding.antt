@@ -5,6 +5,7 @@
 use mathlib.Core.Path.{◌≡◌, refl, sym, ap, ◌∙◌}
 use mathlib.Core.Logic.{◌⊎◌, inl, inr}
 use mathlib.Core.List.{List, [], ◌∷◌, ◌++◌, append-nil}
+use Rattle.std.proofs.Common.{Result, Err}
 use Prim.Native.Nat.{ℕ, zero, suc, ◌+◌, ◌-◌, ◌*◌, ◌≤◌, ◌<◌}
 use native.Mathlib.Nat.{eq-or-lt_of_le, mul_assoc, mul_comm, one-mul, mul-one, mul-le-mul, le-mul_of_pos_right, zero-add}
 use native.Mathlib.Omega.{arith}
@@ -12,12 +13,14 @@ use lib.ListN.{length, get_or}
 use lib.Seq.{sets, take-nil}
 use borrow.Author.Tests.{lt-ltb, eq-eqb, ne_eqb}
 use Rattle.answers.specs.Runs.{over}
-use Rattle.answers.specs.declared.Refusal.{Refusal}
+use Rattle.answers.specs.declared.Refused.{Refused}
+use Rattle.answers.specs.Told.{told, number_of}
 use Rattle.answers.specs.Laid.{laid}
 use Rattle.answers.proofs.Runs.{Each, over-ext, over-snoc}
 use Rattle.answers.proofs.Laid.{sets-whole}
 use Rattle.answers.proofs.Filled.{filled_at}
 use Rattle.answers.proofs.Checks.{clear}
+use Rattle.answers.proofs.Told.{told-err, refuses}
 use Rattle.description.specs.declared.Description.{Description}
 use Rattle.description.specs.Limits.{most_tiles}
 use Rattle.description.specs.Description.{sides_of}
@@ -206,20 +209,19 @@ module _ (d : Description) (domain : Window) (extents : List ℕ) (w : Window) (
           ∙ ap (sets before 0) (append-nil (numbers_of found-axes 0 (n - 1 + 1) 0) ∙ l)
           ∙ sets-whole before (touched d domain extents w order)
 
--- ---- the answer
-module _ (d : Description) (domain : Window) (extents : List ℕ) (w : Window) (order : Order) (t : Refusal) (e : t ≡ dense_refusal d domain extents w) where
-  pub refused : (t.number ≡ 0 → ⊥) → (out : List ℕ)
-      → (◌≡◌ {A = DenseAnswer} (record { number = t.number; place = t.place; found = 0 }) (dense_answer d domain extents w order))
-      × (out ≡ dense_buffer d domain extents w order out)
-  unfolding dense_answer dense_buffer
-  refused h out = rw (← e, ne_eqb t.number 0 h) (refl, refl)
-
-  pub passing : t.number ≡ 0 → (dense_refusal d domain extents w).number ≡ 0
-  passing h = rw (← e) h
-
-  pub answered : (h : t.number ≡ 0) (found : ℕ) (before after : List ℕ) → found ≡ length (touched d domain extents w order)
+  -- the answer of one that isn't refused
+  pub answered : (found : ℕ) (before after : List ℕ) → found ≡ length (touched d domain extents w order)
       → after ≡ laid (touched d domain extents w order) before
       → (◌≡◌ {A = DenseAnswer} (record { number = 0; place = 0; found = found }) (dense_answer d domain extents w order))
       × (after ≡ dense_buffer d domain extents w order before)
   unfolding dense_answer dense_buffer
-  answered h found before after p q = rw (← e, eq-eqb t.number 0 h, p, q) (refl, refl)
+  answered found before after p q = rw (eq-eqb (dense_refusal d domain extents w).number 0 passed, p, q) (refl, refl)
+
+-- and of one that is
+pub refused : (d : Description) (domain : Window) (extents : List ℕ) (w : Window) (order : Order) {r : Result Unit Refused} {e : Refused}
+    → told r ≡ dense_refusal d domain extents w → r ≡ Err e → {number : ℕ} → number ≡ number_of e.reason → (out : List ℕ)
+    → (◌≡◌ {A = DenseAnswer} (record { number = number; place = e.place; found = 0 }) (dense_answer d domain extents w order))
+    × (out ≡ dense_buffer d domain extents w order out)
+unfolding told dense_answer dense_buffer
+refused d domain extents w order {e = e} says is n out =
+    rw (n, ← (told-err says is), ne_eqb (number_of e.reason) 0 (refuses e)) (refl, refl)

@@ -2,21 +2,15 @@
 -- Assumes nothing.
 use mathlib.Core.Path.{◌≡◌, refl, sym, ap, ◌∙◌}
 use mathlib.Core.Bool.{Bool, true, false, not, ◌&&◌, cond}
-use mathlib.Core.List.{[], ◌∷◌}
 use Prim.Native.Nat.{ℕ, ◌+◌, ◌-◌, ◌/◌, ◌%◌, ◌^◌, ◌≤◌, ◌<◌, min}
 use native.Mathlib.Nat.{pos_of_ne-zero}
 use native.Mathlib.Decide.{dec_le}
 use native.Mathlib.Omega.{arith}
 use lib.Dec.{eqb, leb, ltb}
 use borrow.Author.Tests.{eq-eqb, ne_eqb, le-leb, lt-leb, lt-ltb, le-ltb}
-use Rattle.answers.specs.Refusals.{refusal, none, grid}
-use Rattle.answers.specs.declared.Refusal.{Refusal}
-use Rattle.answers.specs.Checks.{check, otherwise, first}
-use Rattle.answers.proofs.Checks.{regroup, halt, go_on, last, first-none}
-use Rattle.description.specs.declared.Description.{Description}
+use Rattle.answers.specs.Refusals.{refusal, grid}
+use Rattle.answers.specs.Checks.{check}
 use Rattle.description.specs.Limits.{most_tiles}
-use Rattle.boxes.specs.declared.Window.{Window}
-use Rattle.boxes.specs.Windows.{window_refusal}
 use Rattle.description.specs.declared.Kind.{Kind}
 use Rattle.description.specs.Kinds.{end_bytes, key}
 use Rattle.ranges.specs.declared.Range.{Range}
@@ -74,33 +68,9 @@ module _ (low high e from to tiles : ℕ) (t : tiles ≡ capped ((high - low) / 
   unfolding first_along span_along
   axis-above h = rw (t, lt-leb from high h)
 
--- four checks, of which the first two are asked together
-module _ (r s u v : Refusal) (q : Refusal) (e : q ≡ otherwise r s) where
-  in_two : first (r ∷ s ∷ u ∷ v ∷ []) ≡ otherwise q (otherwise u (first (v ∷ [])))
-  unfolding first
-  in_two = rw e (sym (regroup r s (otherwise u (otherwise v (first [])))))
-
-  pub told-first : (q.number ≡ 0 → ⊥) → q ≡ first (r ∷ s ∷ u ∷ v ∷ [])
-  told-first h = sym (in_two ∙ halt q _ h)
-
-  module _ (h : q.number ≡ 0) where
-    pub told-third : (x : Refusal) → x ≡ u → (x.number ≡ 0 → ⊥) → x ≡ first (r ∷ s ∷ u ∷ v ∷ [])
-    told-third x f k = sym (in_two ∙ go_on q _ h ∙ rw (← f) (halt x _ k))
-
-    pub told-last : (x y : Refusal) → x ≡ u → x.number ≡ 0 → y ≡ v → (v.number ≡ 0 → v ≡ none) → y ≡ first (r ∷ s ∷ u ∷ v ∷ [])
-    told-last x y f k g n = g ∙ sym (in_two ∙ go_on q _ h ∙ rw (← f) (go_on x _ k) ∙ last v n)
-
 pub capped-above : (x : ℕ) → ltb most_tiles (capped x) ≡ ltb most_tiles x
 capped-above x = go (dec_le x most_tiles)
   where
     go : Dec (x ≤ most_tiles) → ltb most_tiles (capped x) ≡ ltb most_tiles x
     go (yes h) = rw (le-ltb most_tiles x h, le-ltb most_tiles (capped x) (omega arith))
     go (no h) = rw (lt-ltb most_tiles x (omega arith), lt-ltb most_tiles (capped x) (omega arith))
-
-pub window-none : (d : Description) (w : Window) → (window_refusal d w).number ≡ 0 → window_refusal d w ≡ none
-unfolding window_refusal
-window-none d w h = first-none _ h
-
-pub two-checks : (r s : Refusal) → (s.number ≡ 0 → s ≡ none) → otherwise r s ≡ first (r ∷ s ∷ [])
-unfolding first
-two-checks r s h = ap (otherwise r) (sym (last s h))

@@ -1,11 +1,12 @@
 -- The kinds: their bytes, and the order of their bit patterns.
 -- Assumes nothing.
-use Rattle.std.specs.Prelude.{ℕ, Bool, true, false, not, ◌&&◌, cond, leb, eqb}
+use Rattle.std.specs.Prelude.{◌≡◌, ℕ, Result, MatchResult, Bool, true, false, not, ◌&&◌, cond, leb, eqb}
 use Rattle.std.specs.Float.{binary32, binary64}
 use Rattle.std.specs.Float.Ieee.{nan_bits}
 use Rattle.std.specs.Int.{w32, w64}
 use Rattle.order.specs.Key.{signed_key, float_key, infinite}
 use Rattle.description.specs.declared.Kind.{Kind}
+use Rattle.description.specs.declared.UnknownKind.{UnknownKind}
 use Rattle.description.specs.declared.Kind.TheVariants.{Int32, Int64, Float32, Float64, Uint64}
 
 -- Box bytes for each kind, per dimension: int32 8, int64 16, float32 8, float64 16, uint64 16.
@@ -39,6 +40,12 @@ kind_of_datatype n =
 
 abbrev pub is_datatype : ℕ → Bool
 is_datatype n = eqb n (datatype (kind_of_datatype n))
+
+-- a number is the Datatype number of the kind that it gives, or of none
+abbrev pub IsKindOf : ℕ → Result Kind UnknownKind → Type 0
+IsKindOf n r =
+    MatchResult r (λ k. (datatype k ≡ n) × (k ≡ kind_of_datatype n))
+    (λ e. (e.0 ≡ n) × (is_datatype n ≡ false) × (kind_of_datatype n ≡ Int32))
 
 abbrev pub same_kind : Kind → Kind → Bool
 same_kind a b = eqb (datatype a) (datatype b)

@@ -1,15 +1,16 @@
 // Kinds, the description and its limits: what comes with the bytes.
 #![tactic(auto)]
 
-ghost use Rattle.std.specs.Prelude.{◌≡◌, ◌<◌};
+ghost use Rattle.std.specs.Prelude.{◌≡◌};
+ghost use Rattle.answers.specs.Told.{number_of, told};
 ghost use Rattle.description.specs.Limits.{least_tiles, most_tiles, least_fanout, most_fanout, outside};
-ghost use Rattle.description.specs.Kinds.{range_bytes, datatype, kind_of_datatype, float_of, is_float32, is_float};
+ghost use Rattle.description.specs.Kinds.{range_bytes, datatype, kind_of_datatype, IsKindOf, float_of, is_float32, is_float};
 ghost use Rattle.description.specs.Description.{limits_refusal, kinds_refusal, retired_refusal, float_refusal};
 ghost use Rattle.description.specs.Description.{description_refusal, sides_of, bytes_of_box};
 
-use answers::Refusal;
+use answers::{Reason, Refused};
 
-#[derive(Clone, Copy)]
+#[derive(Clone, Copy, Debug, PartialEq, Eq)]
 pub enum Kind {
     Int32,
     Int64,
@@ -90,19 +91,30 @@ impl Kind {
     pub fn of(datatype: u64) -> Kind
         ensures { result ≡ kind_of_datatype datatype }
     {
-        if datatype == 1 {
-            return Kind::Int64;
+        Kind::try_from(datatype).unwrap_or(Kind::Int32)
+    }
+}
+
+// A Datatype number that is no kind's.
+#[derive(Clone, Copy, Debug, PartialEq, Eq)]
+pub struct UnknownKind(pub u64);
+
+// The kind of a Datatype number.
+impl TryFrom<u64> for Kind {
+    type Error = UnknownKind;
+
+    ghost try_from_gives = { IsKindOf };
+
+    #[tactic(auto, unfolding(crate::specs::Kinds::kind_of_datatype))]
+    fn try_from(datatype: u64) -> Result<Kind, UnknownKind> {
+        match datatype {
+            0 => Ok(Kind::Int32),
+            1 => Ok(Kind::Int64),
+            2 => Ok(Kind::Float32),
+            3 => Ok(Kind::Float64),
+            10 => Ok(Kind::Uint64),
+            _ => Err(UnknownKind(datatype)),
         }
-        if datatype == 2 {
-            return Kind::Float32;
-        }
-        if datatype == 3 {
-            return Kind::Float64;
-        }
-        if datatype == 10 {
-            return Kind::Uint64;
-        }
-        Kind::Int32
     }
 }
 
@@ -136,71 +148,63 @@ impl Description {
     pub const MOST_FANOUT: u32 = 1_024;
 
     // 1, and directly after it 28.
-    pub fn check(self) -> Refusal
-        ensures { result ≡ description_refusal self }
+    #[tactic(auto, using(answers::proofs::Told::halts, answers::proofs::Told::goes_on))]
+    pub fn check(self) -> Result<(), Refused>
+        ensures { told result ≡ description_refusal self }
     {
-        let limits = self.check_limits();
-        limits.or(self.check_retired())
+        self.check_limits()?;
+        self.check_retired()
     }
 
     // Refusal 1 at place 0 where D, N or C is outside its limits.
-    pub fn check_limits(self) -> Refusal
-        ensures { result ≡ limits_refusal self }
+    #[tactic(auto, using(answers::proofs::Told::stops, answers::proofs::Told::passes, answers::proofs::Checks::ended), unfolding(crate::specs::Description::limits_refusal))]
+    pub fn check_limits(self) -> Result<(), Refused>
+        ensures { told result ≡ limits_refusal self }
     {
-        if outside(
+        let dimensions = outside(
             Description::LEAST_DIMENSIONS,
             Description::MOST_DIMENSIONS,
             self.dimensions,
-        ) {
-            return Refusal::new(Refusal::DESCRIPTION, 0);
-        }
-        if outside(
+        );
+        Reason::Description.when(dimensions, 0)?;
+        let fields = outside(
             Description::LEAST_FIELDS,
             Description::MOST_FIELDS,
             self.fields,
-        ) {
-            return Refusal::new(Refusal::DESCRIPTION, 0);
-        }
-        if outside(
+        );
+        Reason::Description.when(fields, 0)?;
+        let capacity = outside(
             Description::LEAST_CAPACITY,
             Description::MOST_CAPACITY,
             self.capacity,
-        ) {
-            return Refusal::new(Refusal::DESCRIPTION, 0);
-        }
-        Refusal::none()
+        );
+        Reason::Description.when(capacity, 0)
     }
 
     // 28 at the first float32 dimension.
-    pub fn check_retired(self) -> Refusal
-        ensures { result ≡ retired_refusal self }
+    #[tactic(auto, unfolding(crate::specs::Description::retired_refusal, answers::specs::Told::number_of))]
+    pub fn check_retired(self) -> Result<(), Refused>
+        ensures { told result ≡ retired_refusal self }
     {
-        self.check_kinds(false, Refusal::RETIRED)
+        self.check_kinds(false, Reason::Retired)
     }
 
     // 29 at the first float dimension.
-    pub fn check_floats(self) -> Refusal
-        ensures { result ≡ float_refusal self }
+    #[tactic(auto, unfolding(crate::specs::Description::float_refusal, answers::specs::Told::number_of))]
+    pub fn check_floats(self) -> Result<(), Refused>
+        ensures { told result ≡ float_refusal self }
     {
-        self.check_kinds(true, Refusal::GRID)
+        self.check_kinds(true, Reason::Grid)
     }
 
-    fn check_kinds(self, both: bool, number: u64) -> Refusal
-        requires { 0 < number }
-        ensures { result ≡ kinds_refusal (float_of both) number self }
+    fn check_kinds(self, both: bool, reason: Reason) -> Result<(), Refused>
+        ensures { told result ≡ kinds_refusal (float_of both) (number_of reason) self }
     {
-        let kinds = self.kinds;
         let n = sides_of(self.dimensions);
-        let mut told = Refusal::none();
-        let mut i: usize = 0;
-        while i < n {
-            let side = kinds[i];
-            let k = side.kind;
-            let here = Refusal::when(k.is_float_of(both), number, i as u64);
-            told = told.or(here);
-            i += 1;
+        for i in 0..n {
+            reason.when(self.kinds[i].kind.is_float_of(both), i as u64)?;
         }
-        told
+        Ok(())
     }
 
     // Is n below or above its limits?
@@ -222,15 +226,10 @@ impl Description {
     pub fn box_bytes(self) -> usize
         ensures { result ≡ bytes_of_box self }
     {
-        let kinds = self.kinds;
         let n = sides_of(self.dimensions);
         let mut sum: usize = 0;
-        let mut i: usize = 0;
-        while i < n {
-            let d = kinds[i];
-            let k = d.kind;
-            sum += k.range_bytes();
-            i += 1;
+        for i in 0..n {
+            sum += self.kinds[i].kind.range_bytes();
         }
         sum
     }
@@ -240,16 +239,12 @@ impl Description {
 pub fn sides_of(dimensions: u64) -> usize
     ensures { result ≡ sides_of dimensions }
 {
-    if dimensions < Description::MOST_DIMENSIONS {
-        dimensions as usize
-    } else {
-        4
-    }
+    dimensions.min(Description::MOST_DIMENSIONS) as usize
 }
 
 // Whether x is below the least or above the most.
 pub fn outside(least: u64, most: u64, x: u64) -> bool
     ensures { result ≡ outside least most x }
 {
-    if x < least { true } else { most < x }
+    x < least || most < x
 }

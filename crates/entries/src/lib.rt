@@ -1,15 +1,17 @@
 // The entries of a list: whether tile offsets, var offsets, tile sizes and starts in a buffer keep to their rules.
 #![tactic(auto)]
 
-ghost use Rattle.std.specs.Prelude.{◌≡◌, ◌+◌, ◌*◌, ◌^◌, ◌≤◌, ◌<◌, length};
+ghost use Rattle.std.specs.Prelude.{◌≡◌, refl, ℕ, ◌+◌, ◌*◌, ◌≤◌, Bool, length};
+ghost use Rattle.answers.specs.Told.{told, number_of};
+ghost use Rattle.answers.specs.declared.Reason.{Reason};
 ghost use Rattle.order.specs.Little.{little};
-ghost use Rattle.lists.specs.Lists.{entry, list_refusal};
-ghost use Rattle.lists.specs.Offsets.{answered, offsets_answer, EndToEnd, Extents};
-ghost use Rattle.lists.specs.VarOffsets.{var_offsets_answer, starts_refusal};
-ghost use Rattle.lists.specs.Sizes.{sizes_answer};
-ghost use Rattle.entries.specs.Code.Rules.{rule_number, breaks, after, outcome, loop_answer, entries_answer};
+ghost use Rattle.lists.specs.Lists.{entry, entries_refusal};
+ghost use Rattle.lists.specs.Offsets.{answered, offset_breaks, offsets_refusal, offsets_answer, EndToEnd, Extents};
+ghost use Rattle.lists.specs.VarOffsets.{var_breaks, var_offsets_refusal, var_offsets_answer, starts_refusal};
+ghost use Rattle.lists.specs.Sizes.{size_breaks, sizes_answer};
+ghost use Rattle.entries.specs.Code.Rules.{before, so_far, so_far-none, Stepped, Says, entries_each};
 
-use answers::Refusal;
+use answers::{Reason, Refused};
 use lists::{TileOffsets, TileSizes};
 
 // Tile offsets of a data file of `size` bytes, S.
@@ -17,9 +19,7 @@ pub fn open_offsets(body: &[u8], tiles: u64, size: u64) -> TileOffsets
     ensures answer { result ≡ offsets_answer tiles size body.now }
     ensures extents { result.number ≡ 0 → Extents tiles size body.now }
 {
-    let header = lists::check_list(body, tiles, 8);
-    let list = check_entries(body, tiles, header, Rule::Offsets(size));
-    answered(list, tiles)
+    answered(check_offsets(body, tiles, size), tiles)
 }
 
 // Var offsets of a data file of `size` bytes, S, where a tile may have no bytes.
@@ -27,170 +27,192 @@ pub fn open_var_offsets(body: &[u8], tiles: u64, size: u64) -> TileOffsets
     ensures answer { result ≡ var_offsets_answer tiles size body.now }
     ensures extents { result.number ≡ 0 → EndToEnd tiles size body.now }
 {
-    let header = lists::check_list(body, tiles, 8);
-    let list = check_entries(body, tiles, header, Rule::VarOffsets(size));
-    answered(list, tiles)
+    answered(check_var_offsets(body, tiles, size), tiles)
+}
+
+// What tile offsets are refused for.
+pub fn check_offsets(body: &[u8], tiles: u64, size: u64) -> Result<(), Refused>
+    ensures { told result ≡ offsets_refusal tiles size body.now }
+{
+    check_entries(body, tiles, Offsets { size })?;
+    Ok(())
+}
+
+// The same of var offsets.
+pub fn check_var_offsets(body: &[u8], tiles: u64, size: u64) -> Result<(), Refused>
+    ensures { told result ≡ var_offsets_refusal tiles size body.now }
+{
+    check_entries(body, tiles, VarOffsets { size })?;
+    Ok(())
 }
 
 // The starts of `tiles` values in a buffer of `size` bytes, from byte 8 of the body on, whatever stands around them.
-pub fn check_starts(body: &[u8], tiles: u64, size: u64) -> Refusal
-    ensures { result ≡ starts_refusal tiles size body.now }
+pub fn check_starts(body: &[u8], tiles: u64, size: u64) -> Result<(), Refused>
+    ensures { told result ≡ starts_refusal tiles size body.now }
 {
     let length = body.len() as u64;
-    let words = length / 8;
-    if words <= tiles {
-        return Refusal::new(Refusal::BYTES, length);
-    }
-    match scan(body, tiles as usize, Rule::VarOffsets(size)) {
-        Scanned::Bad(at) => Refusal::new(Refusal::TILE_OFFSETS, at as u64),
-        Scanned::Whole(_) => Refusal::none(),
-    }
+    Reason::Bytes.when(length / 8 <= tiles, length)?;
+    scan(body, tiles as usize, VarOffsets { size })?;
+    Ok(())
 }
 
 // Tile sizes: their sum, or the entry that takes it past 2^64 - 1.
 pub fn open_sizes(body: &[u8], tiles: u64) -> TileSizes
     ensures { result ≡ sizes_answer tiles body.now }
 {
-    let header = lists::check_list(body, tiles, 8);
-    let list = check_entries(body, tiles, header, Rule::Sizes);
-    TileSizes {
-        number: list.number,
-        place: list.place,
-        sum: list.value,
+    match check_entries(body, tiles, Sizes) {
+        Ok(sum) => TileSizes {
+            number: 0,
+            place: 0,
+            sum,
+        },
+        Err(e) => TileSizes {
+            number: e.reason.number(),
+            place: e.place,
+            sum: 0,
+        },
     }
 }
 
 // An accepted list answers n.
-fn answered(list: Checked, tiles: u64) -> TileOffsets
-    ensures { result ≡ answered tiles (record { number = list.number; place = list.place }) }
+#[tactic(auto, using(answers::proofs::Told::refuses), unfolding(answers::specs::Told::told))]
+fn answered(list: Result<(), Refused>, tiles: u64) -> TileOffsets
+    ensures { result ≡ answered tiles (told list) }
 {
-    let number = list.number;
-    TileOffsets {
-        number,
-        place: list.place,
-        tiles: if number == 0 { tiles } else { 0 },
-    }
-}
-
-// What the entries of a list keep to. Offsets: the first is 0, each later one above the one before, all below S. Var
-// offsets: the first is 0, none below the one before, none above S. Sizes: their sum fits.
-#[derive(Clone, Copy)]
-enum Rule {
-    Offsets(u64),
-    VarOffsets(u64),
-    Sizes,
-}
-
-// Number 0: not refused. The value is what was carried past the last entry, for sizes their sum, and 0 where the list
-// is refused.
-#[derive(Clone, Copy)]
-struct Checked {
-    number: u64,
-    place: u64,
-    value: u64,
-}
-
-// The entries, after the list's header. The header's check stands apart, in each caller: this function is then small
-// enough that the compiler makes a copy of it, and so of the loop, for each rule.
-fn check_entries(body: &[u8], tiles: u64, header: Refusal, rule: Rule) -> Checked
-    requires { header ≡ list_refusal tiles 8 body.now }
-    ensures { result ≡ entries_answer rule tiles body.now }
-{
-    let number = header.number;
-    if number != 0 {
-        return Checked {
-            number,
-            place: header.place,
-            value: 0,
-        };
-    }
-    match scan(body, tiles as usize, rule) {
-        Scanned::Bad(at) => Checked {
-            number: number_of(rule),
-            place: at as u64,
-            value: 0,
-        },
-        Scanned::Whole(value) => Checked {
+    match list {
+        Ok(()) => TileOffsets {
             number: 0,
             place: 0,
-            value,
+            tiles,
+        },
+        Err(e) => TileOffsets {
+            number: e.reason.number(),
+            place: e.place,
+            tiles: 0,
         },
     }
 }
 
-// Whole: what was carried past the last entry. Bad: where the first entry that breaks the rule starts.
-#[derive(Clone, Copy)]
-enum Scanned {
-    Whole(u64),
-    Bad(usize),
+// What the entries of a list keep to, one after the other.
+trait Rule: Copy {
+    // whether entry i breaks it
+    ghost breaks: { Self → (ℕ → ℕ) → ℕ → Bool };
+
+    // what comes to entry i from those before it
+    ghost comes: { Self → (ℕ → ℕ) → ℕ → ℕ };
+
+    ghost REASON: { Reason };
+
+    // Why a list that breaks it is refused.
+    const REASON: Reason;
+
+    // What goes on to the next entry from entry x at a place, unless x breaks the rule.
+    fn next(&self, at: usize, before: u64, x: u64) -> Option<u64>
+        ensures { Stepped (breaks self.now) (comes self.now) at before x result };
+
+    // nothing comes to the first entry
+    ghost begins: { (rule : Self) (g : ℕ → ℕ) → comes rule g 0 ≡ 0 };
 }
 
-// Goes through the entries until one breaks the rule. What is carried from entry to entry is the offset before, or the
-// sum so far. The place is the only counter: a second one, the entry's number, costs 15 % of the speed.
-fn scan(body: &[u8], n: usize, rule: Rule) -> Scanned
+// The first is 0, each later one above the one before, all below `size`.
+#[derive(Clone, Copy)]
+struct Offsets {
+    size: u64,
+}
+
+// The first offset, at 8, has a rule of its own, and the compiler takes that turn out of the loop. The test against the
+// size comes first: in the other order the compiled loop has a branch that can straddle two cache lines; linked so, it
+// was measured 1.3 to 3 times slower.
+impl Rule for Offsets {
+    ghost breaks = { λ rule. offset_breaks rule.size };
+
+    ghost comes = { λ _. before };
+
+    ghost REASON = { Reason.TileOffsets };
+
+    const REASON: Reason = Reason::TileOffsets;
+
+    fn next(&self, at: usize, before: u64, x: u64) -> Option<u64> {
+        let broken = self.size <= x || if at == 8 { x != 0 } else { x <= before };
+        if broken { None } else { Some(x) }
+    }
+
+    ghost begins = { λ _ _. refl };
+}
+
+// The first is 0, none below the one before, none above `size`.
+#[derive(Clone, Copy)]
+struct VarOffsets {
+    size: u64,
+}
+
+// The tests stand in the same order.
+impl Rule for VarOffsets {
+    ghost breaks = { λ rule. var_breaks rule.size };
+
+    ghost comes = { λ _. before };
+
+    ghost REASON = { Reason.TileOffsets };
+
+    const REASON: Reason = Reason::TileOffsets;
+
+    fn next(&self, at: usize, before: u64, x: u64) -> Option<u64> {
+        let broken = self.size < x || if at == 8 { 0 < x } else { x < before };
+        if broken { None } else { Some(x) }
+    }
+
+    ghost begins = { λ _ _. refl };
+}
+
+// Their sum fits.
+#[derive(Clone, Copy)]
+struct Sizes;
+
+impl Rule for Sizes {
+    ghost breaks = { λ _. size_breaks };
+
+    ghost comes = { λ _. so_far };
+
+    ghost REASON = { Reason.SizesSum };
+
+    const REASON: Reason = Reason::SizesSum;
+
+    fn next(&self, _at: usize, before: u64, x: u64) -> Option<u64> {
+        before.checked_add(x)
+    }
+
+    ghost begins = { λ _ g. so_far-none g };
+}
+
+// A whole list: what came past the last entry, for sizes their sum.
+fn check_entries<R: Rule>(body: &[u8], tiles: u64, rule: R) -> Result<u64, Refused>
+    ensures { Says (entries_refusal (R.breaks rule (entry body.now)) (number_of R.REASON) tiles body.now)
+        (R.comes rule (entry body.now) tiles) result }
+{
+    lists::check_list(body, tiles, 8)?;
+    scan(body, tiles as usize, rule)
+}
+
+// Goes through the entries until one breaks the rule. The place is the only counter: a second one, the entry's number,
+// costs 15 % of the speed.
+fn scan<R: Rule>(body: &[u8], n: usize, rule: R) -> Result<u64, Refused>
     requires { 8 + 8 * n ≤ length body.now }
-    ensures { outcome rule result ≡ loop_answer rule (entry body.now) n }
+    ensures { Says (entries_each (R.breaks rule (entry body.now)) (number_of R.REASON) n)
+        (R.comes rule (entry body.now) n) result }
 {
     let end = 8 + 8 * n;
     let mut at = 8;
-    let mut carried = 0;
+    let mut before = 0;
     loop {
         if end <= at {
-            break Scanned::Whole(carried);
+            break Ok(before);
         }
         let x = word(body, at);
-        if breaks(rule, at, carried, x) {
-            break Scanned::Bad(at);
+        match rule.next(at, before, x) {
+            Some(next) => before = next,
+            None => break Err(R::REASON.at(at as u64)),
         }
-        carried = after(rule, carried, x);
         at += 8;
-    }
-}
-
-// The refusal that a broken rule is.
-fn number_of(rule: Rule) -> u64
-    ensures { result ≡ rule_number rule }
-{
-    match rule {
-        Rule::Offsets(_) => Refusal::TILE_OFFSETS,
-        Rule::VarOffsets(_) => Refusal::TILE_OFFSETS,
-        Rule::Sizes => Refusal::SIZES_SUM,
-    }
-}
-
-// For sizes the test comes before the addition, which then fits. The first offset, at 8, has a rule of its own, and the
-// compiler takes that turn out of the loop. The test against S comes first: in the other order the compiled loop has a
-// branch that can straddle two cache lines; linked so, it was measured 1.3 to 3 times slower.
-fn breaks(rule: Rule, at: usize, carried: u64, x: u64) -> bool
-    ensures { result ≡ breaks rule at carried x }
-{
-    match rule {
-        Rule::Offsets(size) => if size <= x {
-            true
-        } else if at == 8 {
-            x != 0
-        } else {
-            x <= carried
-        },
-        Rule::VarOffsets(size) => if size < x {
-            true
-        } else if at == 8 {
-            0 < x
-        } else {
-            x < carried
-        },
-        Rule::Sizes => 0xFFFF_FFFF_FFFF_FFFF - carried < x,
-    }
-}
-
-fn after(rule: Rule, carried: u64, x: u64) -> u64
-    requires { after rule carried x < 2 ^ 64 }
-    ensures { result ≡ after rule carried x }
-{
-    match rule {
-        Rule::Offsets(_) => x,
-        Rule::VarOffsets(_) => x,
-        Rule::Sizes => carried + x,
     }
 }
 

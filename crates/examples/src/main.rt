@@ -9,7 +9,9 @@ ghost use Rattle.std.specs.Prelude.{◌≤◌, ◌<◌, length};
 
 use boxes::{Side, Window};
 use description::{Description, Dimension, Kind};
+use floats::Float;
 use footer::Footer;
+use ints::Int;
 use lists::{Extent, TileOffsets};
 use query::Answer;
 use ranges::Range;
@@ -66,13 +68,11 @@ fn size_of(case: &[u8], rest: usize) -> usize
     ensures { (0 < result) × (result ≤ rest) }
 {
     let size = order::u64_at(case, 0);
-    if size < 1 {
-        return rest;
+    if size < 1 || rest as u64 <= size {
+        rest
+    } else {
+        size as usize
     }
-    if rest as u64 <= size {
-        return rest;
-    }
-    size as usize
 }
 
 fn ask(rt: &impl Print, case: &[u8]) {
@@ -113,34 +113,18 @@ fn number(rt: &impl Print, x: u64) {
     let _ = print!(rt; "{x}\t");
 }
 
-// The kind of a Datatype number. No case has another number.
-fn kind(x: u64) -> Kind {
-    match x {
-        0 => Kind::Int32,
-        1 => Kind::Int64,
-        2 => Kind::Float32,
-        3 => Kind::Float64,
-        10 => Kind::Uint64,
-        _ => Kind::Int64,
+fn numbers(rt: &impl Print, xs: &[u64]) {
+    for x in xs {
+        number(rt, *x);
     }
 }
 
 fn description(case: &[u8]) -> Description {
-    let a = Dimension {
-        kind: kind(order::u64_at(case, 24)),
-    };
-    let b = Dimension {
-        kind: kind(order::u64_at(case, 32)),
-    };
-    let c = Dimension {
-        kind: kind(order::u64_at(case, 40)),
-    };
-    let d = Dimension {
-        kind: kind(order::u64_at(case, 48)),
-    };
     Description {
         dimensions: order::u64_at(case, 16),
-        kinds: [a, b, c, d],
+        kinds: [24, 32, 40, 48].map(|at: usize| Dimension {
+            kind: Kind::try_from(order::u64_at(case, at)).unwrap_or(Kind::Int64),
+        }),
         fields: order::u64_at(case, 56),
         capacity: order::u64_at(case, 64),
     }
@@ -148,28 +132,17 @@ fn description(case: &[u8]) -> Description {
 
 // A footer's lists, in the order of its fields.
 fn footer_lists(rt: &impl Print, f: Footer) {
-    let file_sizes = f.file_sizes;
-    list(rt, file_sizes);
-    let file_var_sizes = f.file_var_sizes;
-    list(rt, file_var_sizes);
-    let file_validity_sizes = f.file_validity_sizes;
-    list(rt, file_validity_sizes);
-    let tile_offsets = f.tile_offsets;
-    list(rt, tile_offsets);
-    let var_offsets = f.var_offsets;
-    list(rt, var_offsets);
-    let var_sizes = f.var_sizes;
-    list(rt, var_sizes);
-    let validity = f.validity;
-    list(rt, validity);
-    let mins = f.mins;
-    list(rt, mins);
-    let maxes = f.maxes;
-    list(rt, maxes);
-    let sums = f.sums;
-    list(rt, sums);
-    let null_counts = f.null_counts;
-    list(rt, null_counts);
+    list(rt, f.file_sizes);
+    list(rt, f.file_var_sizes);
+    list(rt, f.file_validity_sizes);
+    list(rt, f.tile_offsets);
+    list(rt, f.var_offsets);
+    list(rt, f.var_sizes);
+    list(rt, f.validity);
+    list(rt, f.mins);
+    list(rt, f.maxes);
+    list(rt, f.sums);
+    list(rt, f.null_counts);
 }
 
 // Every number of a footer, and the cells of tile `i` and of the whole.
@@ -178,20 +151,25 @@ fn footer_case(rt: &impl Print, case: &[u8], bytes: &[u8]) {
     let size = order::u64_at(case, 72);
     let i = order::u64_at(case, 80);
     let f = footer_fields::open(d, size, bytes);
-    number(rt, f.number);
-    number(rt, f.place);
-    number(rt, f.version);
-    number(rt, f.name_size);
-    number(rt, f.dense);
-    number(rt, f.null_domain);
-    number(rt, f.tiles);
-    number(rt, f.last_cells);
-    number(rt, f.timestamps);
-    number(rt, f.deletes);
-    number(rt, f.rtree);
-    number(rt, f.fragment);
-    number(rt, f.conditions);
-    number(rt, f.length);
+    numbers(
+        rt,
+        &[
+            f.number,
+            f.place,
+            f.version,
+            f.name_size,
+            f.dense,
+            f.null_domain,
+            f.tiles,
+            f.last_cells,
+            f.timestamps,
+            f.deletes,
+            f.rtree,
+            f.fragment,
+            f.conditions,
+            f.length,
+        ],
+    );
     footer_lists(rt, f);
     number(rt, cells::tile_cells(d, size, bytes, i));
     number(rt, cells::total_cells(d, size, bytes));
@@ -199,10 +177,7 @@ fn footer_case(rt: &impl Print, case: &[u8], bytes: &[u8]) {
 
 // The first three places of a list, and the last.
 fn list(rt: &impl Print, entries: [u64; 64]) {
-    number(rt, entries[0]);
-    number(rt, entries[1]);
-    number(rt, entries[2]);
-    number(rt, entries[63]);
+    numbers(rt, &[entries[0], entries[1], entries[2], entries[63]]);
 }
 
 fn name_case(rt: &impl Print, case: &[u8], bytes: &[u8]) {
@@ -230,18 +205,12 @@ fn var_offsets_case(rt: &impl Print, case: &[u8], bytes: &[u8]) {
 
 // What a list of offsets answers, and one of its tiles.
 fn offsets_answer(rt: &impl Print, r: TileOffsets, e: Extent) {
-    number(rt, r.number);
-    number(rt, r.place);
-    number(rt, r.tiles);
-    number(rt, e.offset);
-    number(rt, e.extent);
+    numbers(rt, &[r.number, r.place, r.tiles, e.offset, e.extent]);
 }
 
 fn sizes_case(rt: &impl Print, case: &[u8], bytes: &[u8]) {
     let r = entries::open_sizes(bytes, order::u64_at(case, 72));
-    number(rt, r.number);
-    number(rt, r.place);
-    number(rt, r.sum);
+    numbers(rt, &[r.number, r.place, r.sum]);
 }
 
 fn open_case(rt: &impl Print, case: &[u8], bytes: &[u8], body: &[u8]) {
@@ -270,12 +239,10 @@ fn lend_work(rt: &impl Print, case: &[u8], bytes: &[u8], body: &[u8], work: &mut
 }
 
 fn opened_numbers(rt: &impl Print, r: Opened) {
-    number(rt, r.number);
-    number(rt, r.place);
-    number(rt, r.which);
-    number(rt, r.tiles);
-    number(rt, r.fanout);
-    number(rt, r.levels);
+    numbers(
+        rt,
+        &[r.number, r.place, r.which, r.tiles, r.fanout, r.levels],
+    );
 }
 
 // A range by its kind and the patterns of its ends.
@@ -283,10 +250,10 @@ fn range(k: Kind, low: u64, high: u64) -> Range {
     let a = (low % 0x1_0000_0000) as u32;
     let z = (high % 0x1_0000_0000) as u32;
     match k {
-        Kind::Int32 => Range::I32(ints::i32_of(a), ints::i32_of(z)),
-        Kind::Int64 => Range::I64(ints::i64_of(low), ints::i64_of(high)),
-        Kind::Float32 => Range::F32(floats::f32_of(a), floats::f32_of(z)),
-        Kind::Float64 => Range::F64(floats::f64_of(low), floats::f64_of(high)),
+        Kind::Int32 => Range::I32(i32::of(a), i32::of(z)),
+        Kind::Int64 => Range::I64(i64::of(low), i64::of(high)),
+        Kind::Float32 => Range::F32(f32::of(a), f32::of(z)),
+        Kind::Float64 => Range::F64(f64::of(low), f64::of(high)),
         Kind::Uint64 => Range::U64(low, high),
     }
 }
@@ -294,24 +261,24 @@ fn range(k: Kind, low: u64, high: u64) -> Range {
 fn side(bytes: &[u8], at: usize) -> Side
     requires { at ≤ 128 }
 {
-    let k = kind(order::u64_at(bytes, at));
-    let r = range(
-        k,
-        order::u64_at(bytes, at + 8),
-        order::u64_at(bytes, at + 16),
-    );
-    Side { range: r }
+    let kind = Kind::try_from(order::u64_at(bytes, at)).unwrap_or(Kind::Int64);
+    let low = order::u64_at(bytes, at + 8);
+    let high = order::u64_at(bytes, at + 16);
+    Side {
+        range: range(kind, low, high),
+    }
 }
 
 // A window is its number of dimensions and four sides, each a kind and two patterns.
 fn window(bytes: &[u8]) -> Window {
-    let a = side(bytes, 8);
-    let b = side(bytes, 32);
-    let c = side(bytes, 56);
-    let d = side(bytes, 80);
     Window {
         dimensions: order::u64_at(bytes, 0),
-        sides: [a, b, c, d],
+        sides: [
+            side(bytes, 8),
+            side(bytes, 32),
+            side(bytes, 56),
+            side(bytes, 80),
+        ],
     }
 }
 
@@ -334,15 +301,13 @@ fn batch_case(rt: &impl Print, case: &[u8], body: &[u8], asked: &[u8]) {
         let m = room as usize;
         lend_batch(rt, case, body, windows, &mut out[0..m]);
     }
-    all_places(rt, out);
+    places(rt, out);
 }
 
 fn windows(asked: &[u8]) -> [Window; 32] {
     let mut windows = [window(asked); 32];
-    let mut i: usize = 0;
-    while i < 32 {
+    for i in 0..32 {
         windows[i] = window_from(asked, 104 * i);
-        i += 1;
     }
     windows
 }
@@ -364,28 +329,29 @@ fn lend_batch(rt: &impl Print, case: &[u8], body: &[u8], windows: [Window; 32], 
         looked: 0,
     };
     let answers = batch::query_32(d, n, body, windows, [none; 32], out);
-    let mut i: usize = 0;
-    while i < 32 {
-        answered(rt, answers[i]);
-        i += 1;
+    for answer in answers {
+        answered(rt, answer);
     }
 }
 
-fn all_places(rt: &impl Print, out: &[u32]) {
-    let mut i: usize = 0;
-    while i < out.len() {
-        number(rt, wide(out[i]));
-        i += 1;
+fn places(rt: &impl Print, out: &[u32]) {
+    for place in out {
+        number(rt, u64::from(*place));
     }
 }
 
 // One box and a window.
 fn box_test_case(rt: &impl Print, case: &[u8], bytes: &[u8], asked: &[u8]) {
     let r = query::box_test(description(case), bytes, window(asked));
-    number(rt, r.number);
-    number(rt, r.place);
-    number(rt, r.tested.meets as u64);
-    number(rt, r.tested.read as u64);
+    numbers(
+        rt,
+        &[
+            r.number,
+            r.place,
+            r.tested.meets as u64,
+            r.tested.read as u64,
+        ],
+    );
 }
 
 // An opened tree, asked once. The second string is the window, of 104 bytes, and then the body.
@@ -401,32 +367,7 @@ fn opened_case(rt: &impl Print, case: &[u8], bytes: &[u8], both: &[u8]) {
 }
 
 fn room(case: &[u8]) -> usize {
-    let room = order::u64_at(case, 80);
-    if room < 8 {
-        return room as usize;
-    }
-    8
-}
-
-fn places(rt: &impl Print, out: &[u32]) {
-    place(rt, out, 0);
-    place(rt, out, 1);
-    place(rt, out, 2);
-    place(rt, out, 3);
-    place(rt, out, 4);
-    place(rt, out, 5);
-    place(rt, out, 6);
-    place(rt, out, 7);
-}
-
-fn place(rt: &impl Print, places: &[u32], i: usize) {
-    if i < places.len() {
-        number(rt, wide(places[i]));
-    }
-}
-
-fn wide(x: u32) -> u64 {
-    x as u64
+    order::u64_at(case, 80).min(8) as usize
 }
 
 fn lend(rt: &impl Print, case: &[u8], body: &[u8], asked: &[u8], out: &mut [u32], room: usize) {
@@ -456,8 +397,5 @@ fn open_and_lend(
 }
 
 fn answered(rt: &impl Print, r: Answer) {
-    number(rt, r.number);
-    number(rt, r.place);
-    number(rt, r.found);
-    number(rt, r.looked);
+    numbers(rt, &[r.number, r.place, r.found, r.looked]);
 }

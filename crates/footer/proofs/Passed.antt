@@ -23,7 +23,7 @@ use Rattle.footer.specs.Fields.{start, footer_bytes, name_size_of, number_of, ti
 use Rattle.footer.specs.Fields.{no_flag, flag_is, number_outside, file_offsets_refusal}
 use Rattle.footer.specs.declared.Entry.{Entry}
 use Rattle.footer.specs.Checks.{sparse_by, entry_refusal, footer_refusal}
-use Rattle.footer.specs.Code.Places.{head_checks, size_checks, checks_before_tiles, checks_from_tiles}
+use Rattle.footer.specs.Code.Places.{name_checks, head_checks, size_checks, checks_before_tiles, checks_from_tiles}
 use Rattle.footer.specs.Answer.{accepted_checked, refused_checked, entry_checked, checked_answer}
 use Rattle.footer.proofs.Domain.{ranges-anywhere}
 use Rattle.footer.proofs.Fields.{footer-bytes, start-domain}
@@ -40,23 +40,27 @@ pub record Head (d : Description) (footer : List ℕ) : Type 0 where
   pub most-name : name_size_of footer ≤ most_name
 
 module _ (entry : Entry) (d : Description) (F : ℕ) (footer : List ℕ) where
-  pub head_passed : (first (head_checks entry d footer)).number ≡ 0 → Head d footer
+  pub names-passed : (limits_refusal d).number ≡ 0 → (first (name_checks footer)).number ≡ 0 → Head d footer
   unfolding number_outside start
-  head_passed h =
-      let a = clear _ _ h in
-      let b = clear _ _ a.1 in
-      let e = clear _ _ b.1 in
+  names-passed limits h =
+      let e = clear _ _ h in
       let f = clear _ _ e.1 in
       let g = clear _ _ f.1 in
       let n = within least_name most_name (name_size_of footer) (check-clear _ _ _ (omega arith) g.0) in
       record {
-        limits = a.0;
-        description = limits-kept d a.0;
+        limits = limits;
+        description = limits-kept d limits;
         version = f.0;
         name-size = g.0;
         some-name = n.0;
         most-name = n.1;
       }
+
+  pub head_passed : (first (head_checks entry d footer)).number ≡ 0 → Head d footer
+  unfolding start
+  head_passed h =
+      let a = clear _ _ h in
+      names-passed a.0 (clear _ _ a.1).1
 
   pub sizes-passed : (first (size_checks entry d footer F)).number ≡ 0 → (length footer ≡ footer_bytes d footer) × (footer_bytes d footer ≤ F)
   sizes-passed h =

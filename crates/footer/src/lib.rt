@@ -3,17 +3,18 @@
 #![tactic(auto)]
 
 ghost use Rattle.std.specs.Prelude.{◌≡◌, ◌+◌, ◌*◌, ◌≤◌, length, take, drop};
+ghost use Rattle.answers.specs.Told.{number_of, told};
 ghost use Rattle.answers.specs.Checks.{first};
 ghost use Rattle.answers.specs.Refusals.{the_last_cells};
 ghost use Rattle.description.specs.Limits.{most_tiles};
-ghost use Rattle.description.specs.Description.{bytes_of_box, sides_of};
+ghost use Rattle.description.specs.Description.{limits_refusal, bytes_of_box, sides_of};
 ghost use Rattle.boxes.specs.Boxes.{ranges_refusal};
 ghost use Rattle.footer.specs.Fields.{no_flag, flag_is, number_outside, file_offsets_refusal, only_if};
 ghost use Rattle.footer.specs.Checks.{sparse, dense, entry_refusal};
 ghost use Rattle.footer.specs.Answer.{entry_checked, checked_answer, dense_checked};
-ghost use Rattle.footer.specs.Code.Places.{head_checks, checks_before_tiles, checks_from_tiles, BeforeTiles, FromTiles};
+ghost use Rattle.footer.specs.Code.Places.{name_checks, fields_checks, checks_before_tiles, checks_from_tiles, BeforeTiles, FromTiles};
 
-use answers::Refusal;
+use answers::{Reason, Refusal, Refused};
 use boxes::Side;
 use description::Description;
 
@@ -34,7 +35,7 @@ impl Entry {
         ensures { result ≡ sparse further most_tiles }
     {
         Entry {
-            further: further,
+            further,
             flag: 1,
             least: Description::LEAST_TILES,
             most: Description::MOST_TILES,
@@ -47,7 +48,7 @@ impl Entry {
         ensures { result ≡ dense further }
     {
         Entry {
-            further: further,
+            further,
             flag: 0,
             least: 0,
             most: 0,
@@ -104,7 +105,7 @@ pub fn check(description: Description, file_size: u64, bytes: &[u8]) -> Checked
     ensures { result ≡ checked_answer description file_size bytes.now }
 {
     check_by(
-        Entry::sparse(description.check_retired()),
+        Entry::sparse(Refusal::from(description.check_retired())),
         description,
         file_size,
         bytes,
@@ -115,8 +116,8 @@ pub fn check(description: Description, file_size: u64, bytes: &[u8]) -> Checked
 pub fn check_dense(description: Description, file_size: u64, bytes: &[u8]) -> Checked
     ensures { result ≡ dense_checked description file_size bytes.now }
 {
-    let retired = description.check_retired();
-    let floats = description.check_floats();
+    let retired = Refusal::from(description.check_retired());
+    let floats = Refusal::from(description.check_floats());
     check_by(
         Entry::dense(retired.or(floats)),
         description,
@@ -146,61 +147,66 @@ pub fn check_by(entry: Entry, description: Description, file_size: u64, bytes: &
     Checked {
         number: 0,
         place: 0,
-        name_size: name_size,
-        domain: domain,
+        name_size,
+        domain,
         tiles: order::u64_at(bytes, tiles),
         last_cells: order::u64_at(bytes, tiles + 8),
     }
 }
 
-// All checks in their order.
+// All checks in their order. What an entry says may have any number, so it is told as it is.
 fn check_footer(entry: Entry, description: Description, file_size: u64, bytes: &[u8]) -> Refusal
     ensures { result ≡ entry_refusal entry description file_size bytes.now }
 {
-    let head = check_head(entry, description, bytes);
-    if head.number != 0 {
-        return head;
+    let front = Refusal::from(description.check_limits()).or(entry.further);
+    if front.number != 0 {
+        return front;
     }
+    Refusal::from(check_fields(entry, description, file_size, bytes))
+}
+
+// Those after the description.
+fn check_fields(
+    entry: Entry,
+    description: Description,
+    file_size: u64,
+    bytes: &[u8],
+) -> Result<(), Refused>
+    requires { (limits_refusal description).number ≡ 0 }
+    ensures { told result ≡ first (fields_checks entry description bytes.now file_size) }
+{
+    check_head(bytes)?;
     let n = bytes.len();
     let dense = 12 + order::u64_at(bytes, 4) as usize;
     let tiles = dense + 2 + description.box_bytes();
     let total = tiles + 50 + 88 * description.fields as usize;
-    let size = Refusal::when(n != total, Refusal::BYTES, n as u64).or(Refusal::when(
-        file_size < total as u64,
-        Refusal::BYTES,
-        n as u64,
-    ));
-    if size.number != 0 {
-        return size;
-    }
+    Reason::Bytes.when(n != total, n as u64)?;
+    Reason::Bytes.when(file_size < total as u64, n as u64)?;
     // Said last, but asked first: in the other order the compiled loop over the offsets has a register less.
     let from = check_from_tiles(entry, description, file_size, bytes, tiles);
-    check_before_tiles(entry, description, bytes, dense, tiles).or(from)
+    check_before_tiles(entry, description, bytes, dense, tiles)?;
+    from
 }
 
-// The description; then the two fields that the places of all others go by.
-fn check_head(entry: Entry, description: Description, bytes: &[u8]) -> Refusal
-    ensures { result ≡ first (head_checks entry description bytes.now) }
+// The two fields that the places of all others go by.
+fn check_head(bytes: &[u8]) -> Result<(), Refused>
+    ensures { told result ≡ first (name_checks bytes.now) }
 {
-    let further = entry.further;
     let n = bytes.len();
+    Reason::Bytes.when(n < 12, n as u64)?;
     let unknown = description::outside(
         Description::LEAST_VERSION as u64,
         Description::MOST_VERSION as u64,
         order::u32_at(bytes, 0) as u64,
     );
-    description
-        .check_limits()
-        .or(further)
-        .or(Refusal::when(n < 12, Refusal::BYTES, n as u64))
-        .or(Refusal::when(unknown, Refusal::VERSION, 0))
-        .or(check_number(
-            bytes,
-            4,
-            Description::LEAST_NAME,
-            Description::MOST_NAME,
-            Refusal::NAME_SIZE,
-        ))
+    Reason::Version.when(unknown, 0)?;
+    check_number(
+        bytes,
+        4,
+        Description::LEAST_NAME,
+        Description::MOST_NAME,
+        Reason::NameSize,
+    )
 }
 
 // Field by field in footer order: those before the tile number, by the starts of the dense flag and of that number.
@@ -210,17 +216,17 @@ fn check_before_tiles(
     bytes: &[u8],
     dense: usize,
     tiles: usize,
-) -> Refusal
+) -> Result<(), Refused>
     requires { BeforeTiles description bytes.now dense tiles }
-    ensures { result ≡ first (checks_before_tiles entry description bytes.now) }
+    ensures { told result ≡ first (checks_before_tiles entry description bytes.now) }
 {
     let null_domain = dense + 1;
     let domain = dense + 2;
-    check_flag(bytes, dense)
-        .or(check_is(bytes, dense, entry.flag, Refusal::DENSE))
-        .or(check_flag(bytes, null_domain))
-        .or(check_is(bytes, null_domain, 1, Refusal::NULL_DOMAIN))
-        .or(check_domain(description, bytes, domain, tiles))
+    check_flag(bytes, dense)?;
+    check_is(bytes, dense, entry.flag, Reason::Dense)?;
+    check_flag(bytes, null_domain)?;
+    check_is(bytes, null_domain, 1, Reason::NullDomain)?;
+    check_domain(description, bytes, domain, tiles)
 }
 
 // The tile number and all after it, the length field last.
@@ -230,90 +236,91 @@ fn check_from_tiles(
     file_size: u64,
     bytes: &[u8],
     tiles: usize,
-) -> Refusal
+) -> Result<(), Refused>
     requires { FromTiles description bytes.now file_size tiles }
-    ensures { result ≡ first (checks_from_tiles entry description bytes.now file_size) }
+    ensures { told result ≡ first (checks_from_tiles entry description bytes.now file_size) }
 {
     let n = description.fields as usize;
     let total = bytes.len();
     let length = total - 8;
     let limit = file_size - total as u64;
-    let last_cells = tiles + 8;
-    let timestamps = tiles + 16;
-    let deletes = tiles + 17;
-    let rtree = tiles + 18 + 24 * n;
-    let offsets = 8 * n + 3;
-    check_number(bytes, tiles, entry.least, entry.most, Refusal::TILES)
-        .or(check_last_cells(entry.cells, bytes, last_cells, description.capacity))
-        .or(check_flag(bytes, timestamps))
-        .or(check_flag(bytes, deletes))
-        .or(check_offsets(bytes, rtree, offsets, limit))
-        .or(Refusal::when(
-            order::u64_at(bytes, length) != length as u64,
-            Refusal::BYTES,
-            total as u64,
-        ))
+    check_number(bytes, tiles, entry.least, entry.most, Reason::Tiles)?;
+    check_last_cells(entry.cells, bytes, tiles + 8, description.capacity)?;
+    check_flag(bytes, tiles + 16)?;
+    check_flag(bytes, tiles + 17)?;
+    check_offsets(bytes, tiles + 18 + 24 * n, 8 * n + 3, limit)?;
+    Reason::Bytes.when(order::u64_at(bytes, length) != length as u64, total as u64)
 }
 
 // A flag byte is 0 or 1.
-fn check_flag(bytes: &[u8], at: usize) -> Refusal
-    ensures { result ≡ no_flag bytes.now at }
+#[tactic(auto, unfolding(crate::specs::Fields::no_flag, answers::specs::Told::number_of))]
+fn check_flag(bytes: &[u8], at: usize) -> Result<(), Refused>
+    ensures { told result ≡ no_flag bytes.now at }
 {
-    let flag = order::byte_at(bytes, at);
-    Refusal::when(1 < flag, Refusal::FLAG, at as u64)
+    Reason::Flag.when(1 < order::byte_at(bytes, at), at as u64)
 }
 
 // A flag is not this one.
-fn check_is(bytes: &[u8], at: usize, flag: u64, number: u64) -> Refusal
-    ensures { result ≡ flag_is bytes.now flag number at }
+#[tactic(auto, unfolding(crate::specs::Fields::flag_is))]
+fn check_is(bytes: &[u8], at: usize, flag: u64, reason: Reason) -> Result<(), Refused>
+    ensures { told result ≡ flag_is bytes.now flag (number_of reason) at }
 {
-    let byte = order::byte_at(bytes, at);
-    Refusal::when(byte == flag, number, at as u64)
+    reason.when(order::byte_at(bytes, at) == flag, at as u64)
 }
 
 // The last tile's cells, for an entry that has any, are 1 to the capacity.
-fn check_last_cells(has: bool, bytes: &[u8], at: usize, capacity: u64) -> Refusal
-    ensures { result ≡ only_if has (number_outside bytes.now 8 1 capacity the_last_cells at) }
+#[tactic(auto, unfolding(answers::specs::Told::told, answers::specs::Told::number_of))]
+fn check_last_cells(has: bool, bytes: &[u8], at: usize, capacity: u64) -> Result<(), Refused>
+    ensures { told result ≡ only_if has (number_outside bytes.now 8 1 capacity the_last_cells at) }
 {
     if has {
-        check_number(bytes, at, 1, capacity, Refusal::LAST_CELLS)
+        check_number(bytes, at, 1, capacity, Reason::LastCells)
     } else {
-        Refusal::none()
+        Ok(())
     }
 }
 
 // A u64 is neither below the least nor above the most.
-fn check_number(bytes: &[u8], at: usize, least: u64, most: u64, number: u64) -> Refusal
-    ensures { result ≡ number_outside bytes.now 8 least most number at }
+#[tactic(auto, unfolding(crate::specs::Fields::number_outside))]
+fn check_number(
+    bytes: &[u8],
+    at: usize,
+    least: u64,
+    most: u64,
+    reason: Reason,
+) -> Result<(), Refused>
+    ensures { told result ≡ number_outside bytes.now 8 least most (number_of reason) at }
 {
     let outside = description::outside(least, most, order::u64_at(bytes, at));
-    Refusal::when(outside, number, at as u64)
+    reason.when(outside, at as u64)
 }
 
 // The ranges of the box from a place to another, counted from the first of the bytes.
-fn check_domain(description: Description, bytes: &[u8], from: usize, to: usize) -> Refusal
+fn check_domain(
+    description: Description,
+    bytes: &[u8],
+    from: usize,
+    to: usize,
+) -> Result<(), Refused>
     requires { (from + bytes_of_box description ≡ to) × (to ≤ length bytes.now) }
-    ensures { result ≡ ranges_refusal description.kinds (sides_of description.dimensions) (take (bytes_of_box
+    ensures { told result ≡ ranges_refusal description.kinds (sides_of description.dimensions) (take (bytes_of_box
         description) (drop from bytes.now)) from }
 {
     let kinds = description.kinds;
-    let told = boxes::check_ranges(&bytes[from..to], kinds, description.dimensions);
-    told.moved(from as u64)
+    boxes::check_ranges(&bytes[from..to], kinds, description.dimensions).map_err(|e| e.moved(
+        from as u64,
+    ))
 }
 
 // So many offsets from a place on, each below the limit.
-fn check_offsets(bytes: &[u8], at: usize, count: usize, limit: u64) -> Refusal
+fn check_offsets(bytes: &[u8], at: usize, count: usize, limit: u64) -> Result<(), Refused>
     requires { at + 8 * count ≤ length bytes.now }
-    ensures { result ≡ file_offsets_refusal bytes.now limit count at }
+    ensures { told result ≡ file_offsets_refusal bytes.now limit count at }
 {
-    let mut i: usize = 0;
-    while i < count {
+    for i in 0..count {
         let place = at + 8 * i;
         let offset = order::u64_at(bytes, place);
-        if limit <= offset {
-            return Refusal::new(Refusal::OFFSET, place as u64);
-        }
-        i += 1;
+        Reason::Offset.when(limit <= offset, place as u64)?;
     }
-    Refusal::none()
+    Ok(())
 }

@@ -66,7 +66,7 @@ fn read(description: Description, bytes: &[u8], checked: Checked, domain: [Side;
         name_size: checked.name_size,
         dense: order::byte_at(bytes, dense),
         null_domain: order::byte_at(bytes, dense + 1),
-        domain: domain,
+        domain,
         tiles: checked.tiles,
         last_cells: checked.last_cells,
         timestamps: order::byte_at(bytes, tiles + 16),
@@ -95,13 +95,13 @@ fn refused(number: u64, place: u64) -> Footer
     let zeros = [0u64; 64];
     let domain = boxes::no_box();
     Footer {
-        number: number,
-        place: place,
+        number,
+        place,
         version: 0,
         name_size: 0,
         dense: 0,
         null_domain: 0,
-        domain: domain,
+        domain,
         tiles: 0,
         last_cells: 0,
         timestamps: 0,
@@ -131,10 +131,8 @@ fn list_at(bytes: &[u8], from: usize, k: usize, n: usize) -> [u64; 64]
 {
     let at = from + k * (8 * n);
     let mut list = [0u64; 64];
-    let mut i: usize = 0;
-    while i < n {
+    for i in 0..n {
         list[i] = order::u64_at(bytes, at + 8 * i);
-        i += 1;
     }
     list
 }

@@ -1,20 +1,17 @@
--- In which order are two signed numbers, and how is one read without a cast that wraps? In two's complement at any width, the numbers' order
--- is that of their patterns' keys, and a pattern of the upper half is read as its distance into that half, less the half. Assumes nothing.
-use mathlib.Core.Path.{◌≡◌, refl, sym, ap, ◌∙◌, subst}
-use mathlib.Core.Bool.{true, false, true≢false}
+-- In which order are two signed numbers? In two's complement at any width, the numbers' order is that of their patterns'
+-- keys. Assumes nothing.
+use mathlib.Core.Path.{◌≡◌, sym, ap, ◌∙◌}
 use mathlib.Core.Logic.{◌⊎◌, inl, inr}
 use Prim.Native.Nat.{ℕ, suc, ◌+◌, ◌-◌, ◌*◌, ◌%◌, ◌^◌, ◌≤◌, ◌<◌}
-use native.Mathlib.Nat.{mod-eq_of_lt, mod-eq-sub-mod, le_refl}
+use native.Mathlib.Nat.{mod-eq_of_lt, mod-eq-sub-mod}
 use native.Mathlib.Omega.{arith}
 use lib.Dec.{T, leb, leb→le, le→leb, not_T}
-use lib.IntN.{ℤ, pos, negsuc, nat_abs, ◌+ℤ◌, ◌-ℤ◌}
-use lib.Signed.{mag, non_neg, lt_z, le_z}
-use lib.Pow.{pow_pos}
+use lib.IntN.{ℤ, negsuc}
+use lib.Signed.{le_z}
 use lib.Ieee.Bits.{is_true, is_false}
 use mir.Syntax.{Width}
 use mir.Val.{bits, hbits, Fits, SFits, to_z, of_z}
-use mir.ValLaws.{pow-bits, half_full, to_z_pos, to_z-neg, to_z-of_z, to_z-Fits, of_z_fits}
-use borrow.Author.Tests.{lt-ltb, le-ltb}
+use mir.ValLaws.{pow-bits, to_z_pos, to_z-neg, of_z_fits}
 use Rattle.order.specs.Key.{signed_key, signed_at_most}
 use Rattle.order.proofs.Tests.{same_test, under-or-not}
 
@@ -91,80 +88,3 @@ le_z-by-key w a b f g = go (under-or-not a (half w)) (under-or-not b (half w))
 pub le_z-by-bits : (w : Width) (a b : ℤ) → SFits w a → SFits w b → le_z (to_z w (of_z w a)) (to_z w (of_z w b)) ≡ signed_at_most w (of_z w a) (of_z w b)
 unfolding signed_at_most
 le_z-by-bits w a b f g = le_z-by-key w (of_z w a) (of_z w b) (of_z_fits w a f) (of_z_fits w b g)
-
--- ---- a pattern p of the upper half: p less the half, plus the lowest number
-module _ (w : Width) (p : ℕ) (l : half w ≤ p) (f : Fits w p) where
-  into : (h N : ℕ) → N ≡ h * 2 → p < N → p - h < h
-  into h N e k = omega arith
-
-  under_whole : (h N : ℕ) → N ≡ h * 2 → 0 < h → h < N
-  under_whole h N e k = omega arith
-
-  past : (h N : ℕ) → N ≡ h * 2 → 0 < h → p < N → p - h < suc (N - suc h)
-  past h N e k i = omega arith
-
-  rest : (h N : ℕ) → N ≡ h * 2 → h ≤ p → suc (N - suc h) - suc (p - h) ≡ N - suc p
-  rest h N e k = omega arith
-
-  pub upper-sum : to_z w (p - half w) +ℤ to_z w (half w) ≡ to_z w p
-  upper-sum =
-      (λ i. to_z_pos w (p - half w) (into (half w) (2 ^ bits w) (pow-bits w) f.fits) i
-      +ℤ to_z-upper w (half w) (le_refl (half w)) (under_whole (half w) (2 ^ bits w) (pow-bits w) (pow_pos (hbits w))) i)
-      ∙ rw (lt-ltb (p - half w) (suc (2 ^ bits w - suc (half w))) (past (half w) (2 ^ bits w) (pow-bits w) (pow_pos (hbits w)) f.fits))
-      (ap negsuc (rest (half w) (2 ^ bits w) (pow-bits w) l))
-      ∙ sym (to_z-upper w p l f.fits)
-
-  pub upper_fits : SFits w (to_z w (p - half w) +ℤ to_z w (half w))
-  upper_fits = subst (SFits w) (sym upper-sum) (to_z-Fits w p f)
-
-  pub upper-read : to_z w (of_z w (to_z w (p - half w) +ℤ to_z w (half w))) ≡ to_z w p
-  upper-read = to_z-of_z w (to_z w (p - half w) +ℤ to_z w (half w)) upper_fits ∙ upper-sum
-
--- ---- the pattern of a number x: of one below 0 it is -1 - x taken from the highest pattern. A local holds bits, so x is read from its own
-module _ (w : Width) (x : ℤ) (f : SFits w x) where
-  abbrev kept : ℤ
-  kept = to_z w (of_z w x)
-
-  abbrev Cast : ℤ → Type 0
-  Cast z = T (non_neg z) × Fits w (nat_abs z)
-
-  as-natural : (z : ℤ) → z ≡ pos (mag x) → Cast z
-  as-natural z e = rw e (tt, record { fits = half_full w f.sfits })
-
-  module _ (l : lt_z kept (pos 0) ≡ true) where
-    turned : negsuc 0 -ℤ kept ≡ pos (mag x)
-    turned = rw (to_z-of_z w x f) (go x (rw (to_z-of_z w x f) at l))
-      where
-        go : (z : ℤ) → lt_z z (pos 0) ≡ true → negsuc 0 -ℤ z ≡ pos (mag z)
-        go (pos n) h = absurd (true≢false (sym h ∙ le-ltb n 0 (omega arith)))
-        go (negsuc n) h = rw (le-ltb (suc n) 1 (omega arith)) (ap pos (omega arith))
-
-    pub turned-fits : SFits w (negsuc 0 -ℤ kept)
-    turned-fits = rw turned (record { sfits = f.sfits })
-
-    turned-kept : to_z w (of_z w (negsuc 0 -ℤ kept)) ≡ pos (mag x)
-    turned-kept = to_z-of_z w (negsuc 0 -ℤ kept) turned-fits ∙ turned
-
-    pub turned-cast : Cast (to_z w (of_z w (negsuc 0 -ℤ kept)))
-    turned-cast = as-natural (to_z w (of_z w (negsuc 0 -ℤ kept))) turned-kept
-
-    pub turned-bits : 2 ^ bits w - 1 - nat_abs (to_z w (of_z w (negsuc 0 -ℤ kept))) ≡ of_z w x
-    turned-bits = rw turned-kept (go x (rw (to_z-of_z w x f) at l))
-      where
-        go : (z : ℤ) → lt_z z (pos 0) ≡ true → 2 ^ bits w - 1 - mag z ≡ of_z w z
-        go (pos n) h = absurd (true≢false (sym h ∙ le-ltb n 0 (omega arith)))
-        go (negsuc n) h = omega arith
-
-  module _ (l : lt_z kept (pos 0) ≡ false) where
-    natural : x ≡ pos (mag x)
-    natural = go x (rw (to_z-of_z w x f) at l)
-      where
-        go : (z : ℤ) → lt_z z (pos 0) ≡ false → z ≡ pos (mag z)
-        go (pos n) h = refl
-        go (negsuc n) h = absurd (true≢false h)
-
-    pub natural-cast : Cast kept
-    natural-cast = as-natural kept (to_z-of_z w x f ∙ natural)
-
-    pub natural-bits : nat_abs kept ≡ of_z w x
-    natural-bits = rw (to_z-of_z w x f) (rw natural refl)

@@ -2,89 +2,120 @@
 // alone.
 #![tactic(auto)]
 
-ghost use Rattle.std.specs.Prelude.{◌≡◌, ◌%◌, ◌^◌, leb};
+ghost use Rattle.std.specs.Prelude.{◌≡◌, ℕ, ◌%◌, ◌^◌, leb};
 ghost use Rattle.std.specs.Int.{w32, w64};
 ghost use Rattle.std.proofs.Common.{to_z, of_z};
-ghost use Rattle.order.specs.Key.{signed_key, signed_at_most};
+ghost use Rattle.order.specs.Key.{signed_key};
 
-// The number that a two's complement pattern stands for.
-pub fn i32_of(p: u32) -> i32
-    ensures { result ≡ to_z w32 p }
-{
-    if p < 0x8000_0000 {
-        p as i32
-    } else {
-        let m = (p - 0x8000_0000) as i32;
-        m + (-0x8000_0000)
+use order::Word;
+
+// A whole number that a range may end at, and its bit pattern.
+pub trait Int: Copy {
+    type Pattern: Word;
+
+    ghost of_pattern: { ℕ → Self };
+
+    ghost pattern: { Self → ℕ };
+
+    ghost key: { ℕ → ℕ };
+
+    // The number that a pattern stands for.
+    fn of(p: Self::Pattern) -> Self
+        ensures { result ≡ of_pattern (Self.Pattern.number p) };
+
+    // The pattern of a number.
+    fn bits(self) -> Self::Pattern
+        ensures { Self.Pattern.number result ≡ pattern self };
+
+    // Is this at most another?
+    fn at_most(self, other: Self) -> bool
+        ensures { result ≡ leb (key (pattern self)) (key (pattern other)) };
+
+    // The key of a pattern: the order of the keys is that of the numbers.
+    fn key(p: Self::Pattern) -> Self::Pattern
+        ensures { Self.Pattern.number result ≡ key (Self.Pattern.number p) };
+}
+
+// In two's complement.
+#[tactic(auto, unfolding(order::specs::Key::signed_key))]
+impl Int for i32 {
+    type Pattern = u32;
+
+    ghost of_pattern = { to_z w32 };
+
+    ghost pattern = { of_z w32 };
+
+    ghost key = { signed_key w32 };
+
+    fn of(p: u32) -> i32 {
+        p.cast_signed()
+    }
+
+    fn bits(self) -> u32 {
+        self.cast_unsigned()
+    }
+
+    fn at_most(self, other: i32) -> bool {
+        self <= other
+    }
+
+    fn key(p: u32) -> u32 {
+        p.wrapping_add(0x8000_0000)
     }
 }
 
 // The same of 64 bits.
-pub fn i64_of(p: u64) -> i64
-    ensures { result ≡ to_z w64 p }
-{
-    if p < 0x8000_0000_0000_0000 {
-        p as i64
-    } else {
-        let m = (p - 0x8000_0000_0000_0000) as i64;
-        m + (-0x8000_0000_0000_0000)
+#[tactic(auto, unfolding(order::specs::Key::signed_key))]
+impl Int for i64 {
+    type Pattern = u64;
+
+    ghost of_pattern = { to_z w64 };
+
+    ghost pattern = { of_z w64 };
+
+    ghost key = { signed_key w64 };
+
+    fn of(p: u64) -> i64 {
+        p.cast_signed()
+    }
+
+    fn bits(self) -> u64 {
+        self.cast_unsigned()
+    }
+
+    fn at_most(self, other: i64) -> bool {
+        self <= other
+    }
+
+    fn key(p: u64) -> u64 {
+        p.wrapping_add(0x8000_0000_0000_0000)
     }
 }
 
-// The pattern of a number, in two's complement.
-pub fn i32_bits(x: i32) -> u32
-    ensures { result ≡ of_z w32 x }
-{
-    if x < 0 { !((-1 - x) as u32) } else { x as u32 }
-}
+// A number without a sign is its own pattern, and its own key.
+impl Int for u64 {
+    type Pattern = u64;
 
-// The same of 64 bits.
-pub fn i64_bits(x: i64) -> u64
-    ensures { result ≡ of_z w64 x }
-{
-    if x < 0 { !((-1 - x) as u64) } else { x as u64 }
-}
+    ghost of_pattern = { λ p. p };
 
-// Is a at most b?
-pub fn i32_at_most(a: i32, b: i32) -> bool
-    ensures { result ≡ signed_at_most w32 (of_z w32 a) (of_z w32 b) }
-{
-    a <= b
-}
+    ghost pattern = { λ x. x };
 
-// The same of 64 bits.
-pub fn i64_at_most(a: i64, b: i64) -> bool
-    ensures { result ≡ signed_at_most w64 (of_z w64 a) (of_z w64 b) }
-{
-    a <= b
-}
+    ghost key = { λ p. p };
 
-// The same of unsigned numbers, whose patterns are in the numbers' own order.
-pub fn u64_at_most(a: u64, b: u64) -> bool
-    ensures { result ≡ leb a b }
-{
-    a <= b
-}
-
-// The key of a two's complement pattern: the order of the keys is that of the numbers.
-pub fn i32_key(p: u32) -> u32
-    ensures { result ≡ signed_key w32 p }
-{
-    if p < 0x8000_0000 {
-        p + 0x8000_0000
-    } else {
-        p - 0x8000_0000
+    fn of(p: u64) -> u64 {
+        p
     }
-}
 
-// The same of 64 bits.
-pub fn i64_key(p: u64) -> u64
-    ensures { result ≡ signed_key w64 p }
-{
-    if p < 0x8000_0000_0000_0000 {
-        p + 0x8000_0000_0000_0000
-    } else {
-        p - 0x8000_0000_0000_0000
+    fn bits(self) -> u64 {
+        self
+    }
+
+    fn at_most(self, other: u64) -> bool {
+        self <= other
+    }
+
+    fn key(p: u64) -> u64 {
+        p
     }
 }
 
@@ -92,5 +123,5 @@ pub fn i64_key(p: u64) -> u64
 pub fn low_four(p: u64) -> u32
     ensures { result ≡ p % 256 ^ 4 }
 {
-    (p % 0x1_0000_0000) as u32
+    u32::lowest(p)
 }

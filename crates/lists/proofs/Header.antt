@@ -1,17 +1,17 @@
 -- What is known of a list whose header is not refused? Each check in turn says nothing, so n is within the limits, the
 -- count is n, and the bytes are as many as the entries need.
 -- Assumes nothing.
-use mathlib.Core.Path.{◌≡◌, refl, sym, ◌∙◌}
+use mathlib.Core.Path.{◌≡◌, refl}
 use mathlib.Core.Bool.{Bool, true, false, not, ◌||◌, true≢false}
 use mathlib.Core.List.{List, [], ◌∷◌}
-use Prim.Native.Nat.{ℕ, ◌+◌, ◌*◌, ◌≤◌}
+use Prim.Native.Nat.{ℕ, ◌+◌, ◌*◌, ◌≤◌, ◌<◌}
 use native.Mathlib.Omega.{arith}
-use lib.Dec.{ltb, eqb}
+use lib.Dec.{eqb}
 use lib.ListN.{length}
 use borrow.Author.Tests.{ltb-false, eqb-true, not-false}
 use Rattle.answers.specs.Refusals.{bytes, tiles, count}
-use Rattle.answers.specs.Checks.{check}
-use Rattle.answers.proofs.Checks.{clear, past-check, check-clear, joined, joined-first}
+use Rattle.answers.specs.Checks.{check, first}
+use Rattle.answers.proofs.Checks.{clear, check-clear, check-none, last}
 use Rattle.description.specs.Limits.{least_tiles, most_tiles, outside}
 use Rattle.order.specs.Little.{little}
 use Rattle.lists.specs.Lists.{list_refusal, list_refusal_by}
@@ -20,13 +20,9 @@ pub neither : (a b : Bool) → a || b ≡ false → (a ≡ false) × (b ≡ fals
 neither true b e = absurd (true≢false e)
 neither false b e = (refl, e)
 
--- ---- where n is within the limits: the others, as code joins them
-pub others-joined : (n width : ℕ) (s : List ℕ) → outside least_tiles most_tiles n ≡ false
-    → joined (check (ltb (length s) 8) bytes (length s)) (check (not (eqb (little s 0 8) n)) count 0
-    ∷ check (not (eqb (length s) (8 + width * n))) bytes (length s) ∷ []) ≡ list_refusal n width s
-unfolding list_refusal_by
-others-joined n width s inside =
-    joined-first _ (_ ∷ []) (not (eqb (length s) (8 + width * n))) bytes (length s) (omega arith) ∙ sym (past-check _ _ _ _ inside)
+-- the last check has the last word
+pub last-check : (t : Bool) (number place : ℕ) → 0 < number → first (check t number place ∷ []) ≡ check t number place
+last-check t number place some = last _ (check-none t number place some)
 
 -- ---- what is known where none does
 pub record Sound (n width : ℕ) (s : List ℕ) : Type 0 where

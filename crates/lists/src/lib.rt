@@ -3,13 +3,14 @@
 #![tactic(auto)]
 
 ghost use Rattle.std.specs.Prelude.{◌≡◌, ◌-◌, ◌<◌};
+ghost use Rattle.answers.specs.Told.{told};
 ghost use Rattle.lists.specs.Lists.{entry, list_refusal};
 ghost use Rattle.lists.specs.Offsets.{end_of, extent_at};
 
-use answers::Refusal;
+use answers::{Reason, Refused};
 use description::Description;
 
-// Number 0: not refused. An accepted list answers n.
+// As C has it. Number 0: not refused. An accepted list answers n.
 #[derive(Clone, Copy)]
 pub struct TileOffsets {
     pub number: u64,
@@ -17,7 +18,7 @@ pub struct TileOffsets {
     pub tiles: u64,
 }
 
-// Number 0: not refused. An accepted list answers the sum of its sizes.
+// As C has it. Number 0: not refused. An accepted list answers the sum of its sizes.
 #[derive(Clone, Copy)]
 pub struct TileSizes {
     pub number: u64,
@@ -33,22 +34,20 @@ pub struct Extent {
 }
 
 // What a list is refused for before its entries, each of which has `width` bytes.
-pub fn check_list(body: &[u8], tiles: u64, width: u32) -> Refusal
-    ensures { result ≡ list_refusal tiles width body.now }
+#[tactic(auto, using(answers::proofs::Told::stops), unfolding(answers::specs::Told::number_of, crate::specs::Lists::list_refusal_by))]
+pub fn check_list(body: &[u8], tiles: u64, width: u32) -> Result<(), Refused>
+    ensures { told result ≡ list_refusal tiles width body.now }
 {
-    if Description::tiles_outside(tiles) {
-        return Refusal::new(Refusal::TILES, 0);
-    }
+    Reason::Tiles.when(Description::tiles_outside(tiles), 0)?;
     let length = body.len() as u64;
+    Reason::Bytes.when(length < 8, length)?;
+    Reason::Count.when(order::u64_at(body, 0) != tiles, 0)?;
     let total = 8 + width as u64 * tiles;
-    let count = order::u64_at(body, 0);
-    let few = Refusal::when(length < 8, Refusal::BYTES, length);
-    let other_count = Refusal::when(count != tiles, Refusal::COUNT, 0);
-    let other_length = Refusal::when(length != total, Refusal::BYTES, length);
-    few.or(other_count).or(other_length)
+    Reason::Bytes.when(length != total, length)
 }
 
 // Tile i's offset and extent with no check of the list, for one that is known to be accepted, of either kind.
+#[tactic(auto, unfolding(crate::specs::Offsets::offset_of, crate::specs::Offsets::extent_of))]
 pub fn extent_at(body: &[u8], tiles: u64, size: u64, i: u64) -> Extent
     ensures { result ≡ extent_at tiles size body.now i }
 {
@@ -60,8 +59,10 @@ pub fn extent_at(body: &[u8], tiles: u64, size: u64, i: u64) -> Extent
     }
     let offset = entry(body, i);
     let end = end_of(body, tiles, size, i);
-    let extent = less(end, offset);
-    Extent { offset, extent }
+    Extent {
+        offset,
+        extent: end.saturating_sub(offset),
+    }
 }
 
 // Where tile i's bytes end: at the next offset, the last one's at S.
@@ -88,11 +89,4 @@ fn entry(body: &[u8], i: u64) -> u64
     } else {
         0
     }
-}
-
-// a - b, and 0 where b is above a.
-fn less(a: u64, b: u64) -> u64
-    ensures { result ≡ a - b }
-{
-    if b <= a { a - b } else { 0 }
 }

@@ -31,7 +31,7 @@ pub fn open_tree<'a>(
     OpenTree {
         body: part,
         tiles: n,
-        description: description,
+        description,
     }
 }
 
@@ -69,8 +69,5 @@ fn opened_tiles(description: Description, file_size: u64, footer: &[u8], body: &
 fn held_part<'a>(body: &'a [u8], n: u64) -> &'a [u8]
     ensures { result.now ≡ kept_part body.now n }
 {
-    if n == 0 {
-        return &body[..0];
-    }
-    body
+    if n == 0 { &body[..0] } else { body }
 }

@@ -2,7 +2,7 @@
 -- (`body-rest`); the table tells where each level and the one below it stand, and they are there (`root-there`,
 -- `level-there`), so what is said of a level's rows is what the level says (`level-said`).
 -- Assumes nothing.
-use mathlib.Core.Path.{◌≡◌, ap, sym, ◌∙◌}
+use mathlib.Core.Path.{◌≡◌, refl, ap, sym, ◌∙◌}
 use mathlib.Core.List.{List}
 use Prim.Native.Nat.{ℕ, suc, ◌+◌, ◌-◌, ◌*◌, ◌≤◌, ◌<◌}
 use native.Mathlib.Omega.{arith}
@@ -11,6 +11,7 @@ use Rattle.answers.specs.Refusals.{refusal, none, outside_domain}
 use Rattle.answers.specs.Runs.{over}
 use Rattle.answers.specs.Checks.{otherwise, each}
 use Rattle.answers.specs.declared.Refusal.{Refusal}
+use Rattle.answers.proofs.Runs.{over-ext}
 use Rattle.answers.proofs.Checks.{go_on, halt, regroup, both-clear}
 use Rattle.description.specs.declared.Description.{Description}
 use Rattle.description.specs.Description.{bytes_of_box}
@@ -80,13 +81,6 @@ module _ {d : Description} {n : ℕ} {body : List ℕ} {r : Shaped} (s : IsShape
           go_on (shape_refusal n B body) (boxes_refusal d n body domain) all.1
           ∙ rw (top-height, start-root f n B, alone)
 
-      module _ {root : Refusal} (e : root ≡ run_refusal d body domain outside_domain 16 0 1) where
-        pub at-root : (root.number ≡ 0 → ⊥) → root ≡ body_refusal d n domain body
-        at-root o = sym (body-rest ∙ rw (← e) (halt root below_root o))
-
-        pub past-root : root.number ≡ 0 → body_refusal d n domain body ≡ below_root
-        past-root o = body-rest ∙ rw (← e) (go_on root below_root o)
-
     module _ {b : ℕ} (own : b ≡ bytes_of_box d) (some : 0 < bytes_of_box d) where
       level-run : (j : ℕ) → j ≤ height f n → Run d body b (level_start f n B j) 0 (boxes f n j)
       level-run j near = record {
@@ -139,3 +133,12 @@ module _ {d : Description} {n : ℕ} {body : List ℕ} {r : Shaped} (s : IsShape
             e
             ∙ rw (parents.0, parents.1, children.0, children.1, s.fanout, down)
             (rw next at (rows-level d n body (top - l - 1) (omega (arith, z.least))))
+
+      -- as code goes through them
+      pub boxes-said : (domain : List ℕ)
+          → otherwise (run_refusal d body domain outside_domain 16 0 1) (each (λ l. table_refusal d body r.shape.table r.fanout (top - l)) 0 top)
+          ≡ body_refusal d n domain body
+      boxes-said domain =
+          rw (over-ext otherwise none (λ l. table_refusal d body r.shape.table r.fanout (top - l)) (λ l. level_refusal d n body (top - suc l)) 0 top
+          (λ l from to. level-said l (omega arith) refl))
+          (sym (body-rest domain))

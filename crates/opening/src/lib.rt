@@ -1,14 +1,17 @@
 // Opening a footer and a tree body together.
 #![tactic(auto)]
 
-ghost use Rattle.std.specs.Prelude.{◌≡◌, ◌≤◌, ◌<◌};
+ghost use Rattle.std.specs.Prelude.{◌≡◌, ℕ, ◌-◌, ◌≤◌, ◌<◌};
+ghost use Rattle.answers.specs.Refusals.{outside_domain};
+ghost use Rattle.answers.specs.Checks.{otherwise, each};
+ghost use Rattle.answers.specs.Told.{number_of, told};
 ghost use Rattle.description.specs.Description.{bytes_of_box};
 ghost use Rattle.description.specs.Limits.{least_tiles, most_tiles};
 ghost use Rattle.description.specs.Rules.{rules_by};
 ghost use Rattle.rtree.specs.Opening.{body_refusal, open_answer, open_answer_by};
 ghost use Rattle.opening.specs.Code.Stored.{run_refusal, table_refusal, Run, TwoLevels};
 
-use answers::Refusal;
+use answers::{Reason, Refusal, Refused};
 use description::Description;
 use footer::Entry;
 use rtree::Opened;
@@ -18,7 +21,7 @@ pub fn open(description: Description, file_size: u64, footer: &[u8], body: &[u8]
     ensures { result ≡ open_answer description file_size footer.now body.now }
 {
     open_by(
-        description.check_retired(),
+        Refusal::from(description.check_retired()),
         description,
         file_size,
         footer,
@@ -69,24 +72,41 @@ fn check_body(description: Description, tiles: u64, body: &[u8], domain: &[u8]) 
         return Refusal::new(shaped.number, shaped.place);
     }
     let box_bytes = description.box_bytes();
-    let outside = Refusal::OUTSIDE_DOMAIN;
-    let root = check_row(body, description, box_bytes, 16, 0, 1, domain, outside);
-    if root.number != 0 {
-        return root;
-    }
-    let fanout = shaped.fanout;
     let shape = shaped.shape;
-    let table = shape.table;
     let top = shape.levels - 1;
-    let mut l: usize = 0;
-    while l < top {
-        let told = check_level(body, description, box_bytes, fanout, &table, top - l);
-        if told.number != 0 {
-            return told;
-        }
-        l += 1;
+    Refusal::from(check_boxes(
+        body,
+        description,
+        box_bytes,
+        shaped.fanout,
+        &shape.table,
+        top,
+        domain,
+    ))
+}
+
+// The first box inside the domain, and each row of children inside its parent, level by level from the one at distance
+// `top` down.
+fn check_boxes(
+    body: &[u8],
+    description: Description,
+    box_bytes: usize,
+    fanout: usize,
+    table: &[usize; 50],
+    top: usize,
+    domain: &[u8],
+) -> Result<(), Refused>
+    requires root { Run description body.now box_bytes 16 0 1 }
+    requires below { (l : ℕ) → l < top → TwoLevels description body.now table.now box_bytes fanout (top - l) }
+    ensures { told result ≡ otherwise (run_refusal description body.now domain.now outside_domain 16 0 1)
+        (each (λ l. table_refusal description body.now table.now fanout (top - l)) 0 top) }
+{
+    let outside = Reason::OutsideDomain;
+    check_row(body, description, box_bytes, 16, 0, 1, domain, outside)?;
+    for l in 0..top {
+        check_level(body, description, box_bytes, fanout, table, top - l)?;
     }
-    Refusal::none()
+    Ok(())
 }
 
 // The level below the one at distance `above`, row by row: each row inside its parent. The table has the place of each
@@ -98,22 +118,21 @@ fn check_level(
     fanout: usize,
     table: &[usize; 50],
     above: usize,
-) -> Refusal
+) -> Result<(), Refused>
     requires { TwoLevels description body.now table.now box_bytes fanout above }
-    ensures { result ≡ table_refusal description body.now table.now fanout above }
+    ensures { told result ≡ table_refusal description body.now table.now fanout above }
 {
     let below = above - 1;
     let start = tree::place_in(table, above);
     let parents = tree::count_in(table, above);
     let next = tree::place_in(table, below);
     let count = tree::count_in(table, below);
-    let mut k: usize = 0;
-    while k < parents {
+    for k in 0..parents {
         let at = start + k * box_bytes;
         let end = at + box_bytes;
         let first = k * fanout;
         let len = tree::row_length(fanout, count, first);
-        let told = check_row(
+        check_row(
             body,
             description,
             box_bytes,
@@ -121,14 +140,10 @@ fn check_level(
             first,
             len,
             &body[at..end],
-            Refusal::OUTSIDE_PARENT,
-        );
-        if told.number != 0 {
-            return told;
-        }
-        k += 1;
+            Reason::OutsideParent,
+        )?;
     }
-    Refusal::none()
+    Ok(())
 }
 
 // Of the boxes from `start` on, those from box `first` on, `count` of them, each inside one box: the fault of the first
@@ -141,21 +156,16 @@ fn check_row(
     first: usize,
     count: usize,
     outer: &[u8],
-    number: u64,
-) -> Refusal
-    requires run { Run description body.now box_bytes start first count }
-    requires number_nonzero { 0 < number }
-    ensures { result ≡ run_refusal description body.now outer.now number start first count }
+    reason: Reason,
+) -> Result<(), Refused>
+    requires { Run description body.now box_bytes start first count }
+    ensures { told result ≡ run_refusal description body.now outer.now (number_of reason) start first count }
 {
     let from = start + first * box_bytes;
     let to = from + count * box_bytes;
     let kinds = description.kinds;
-    let told = rows::check_row(
-        &body[from..to],
-        kinds,
-        description.dimensions,
-        outer,
-        number,
-    );
-    told.moved(from as u64)
+    let row = &body[from..to];
+    rows::check_row(row, kinds, description.dimensions, outer, reason).map_err(|e| e.moved(
+        from as u64,
+    ))
 }

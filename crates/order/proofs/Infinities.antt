@@ -6,7 +6,7 @@ use mathlib.Core.Logic.{inl, inr}
 use mathlib.Core.Bool.{Bool, true, false, not, ◌&&◌, ◌||◌}
 use Prim.Native.Nat.{ℕ, ◌-◌, ◌%◌, ◌^◌}
 use native.Mathlib.Omega.{arith}
-use lib.Ieee.{Float, nan, inf, fin, Format, binary32, binary64, prec, low, lt, eq, le, neg, div, top, of_bits, to_bits, nan_bits, fits}
+use lib.Ieee.{Float, nan, inf, fin, Format, binary32, binary64, prec, low, lt, eq, le, top, of_bits, to_bits, nan_bits, fits}
 use lib.Ieee.Bits.{nan_bits_above, nan_bits_is, of_bits-to_bits}
 use lib.Dec.{leb}
 use denote.Floats.{passes}
@@ -45,24 +45,28 @@ infinite-is f p = go (nan_bits f p) refl
 pub infinite-told : (f : Format) (x : Float) → fits f x ≡ true → infinite f (to_bits f x) ≡ is_inf x
 infinite-told f x h = infinite-is f (to_bits f x) ∙ ap is_inf (of_bits-to_bits f x (passes (fits f x) h))
 
--- ---- told by comparisons, with the infinities that dividing by zero makes
-abbrev one : Format → ℕ
-one binary32 = 0x3f80_0000
-one binary64 = 0x3ff0_0000_0000_0000
+-- ---- told by comparisons with the infinities, by their patterns
+abbrev upper_bits : Format → ℕ
+upper_bits binary32 = 0x7f80_0000
+upper_bits binary64 = 0x7ff0_0000_0000_0000
+
+abbrev lower_bits : Format → ℕ
+lower_bits binary32 = 0xff80_0000
+lower_bits binary64 = 0xfff0_0000_0000_0000
 
 abbrev pub upper : Format → Float
-upper f = div f (of_bits f (one f)) (of_bits f 0)
+upper f = of_bits f (upper_bits f)
 
 abbrev pub lower : Format → Float
-lower f = div f (neg (of_bits f (one f))) (of_bits f 0)
+lower f = of_bits f (lower_bits f)
 
 upper_is : (f : Format) → upper f ≡ inf false
-unfolding div of_bits
+unfolding of_bits
 upper_is binary32 = refl
 upper_is binary64 = refl
 
 lower-is : (f : Format) → lower f ≡ inf true
-unfolding div neg of_bits
+unfolding of_bits
 lower-is binary32 = refl
 lower-is binary64 = refl
 

@@ -1,9 +1,9 @@
 -- What do the bytes of a part stand for, and how large is it? Laws of `little`, over the number of bytes. Assumes
 -- nothing.
-use mathlib.Core.Path.{◌≡◌, refl, ◌∙◌}
+use mathlib.Core.Path.{◌≡◌, refl, ap, ◌∙◌}
 use mathlib.Core.List.{List}
-use Prim.Native.Nat.{ℕ, zero, suc, ◌+◌, ◌*◌, ◌^◌, ◌≤◌, ◌<◌}
-use native.Mathlib.Nat.{add_assoc, add-zero, zero-add, suc-add, mul-zero, mul_assoc, pow-succ'}
+use Prim.Native.Nat.{ℕ, zero, suc, ◌+◌, ◌-◌, ◌*◌, ◌%◌, ◌^◌, ◌≤◌, ◌<◌}
+use native.Mathlib.Nat.{mod-eq_of_lt, add_assoc, add-zero, zero-add, suc-add, mul-zero, mul_assoc, pow-succ'}
 use native.Mathlib.Numerals.{one-add}
 use native.Mathlib.Omega.{arith}
 use lib.Dec.{lit<}
@@ -55,3 +55,10 @@ little-split s at (suc j) k =
 pub little-ends : (s : List ℕ) (at j k : ℕ) → length s ≤ at + j → little s at (j + k) ≡ little s at j
 little-ends s at j k h =
     rw (little-split s at j k, little-past s (at + j) k h, mul-zero) (add-zero (little s at j))
+
+-- where fewer bytes than eight are left, the lowest of those are the number of fewer
+pub little-lowest : (s : List ℕ) → ((i : ℕ) → Fits w8 (get_or s i 0)) → (at m : ℕ) → m ≤ 8 → length s ≤ at + m
+    → little s at 8 % 256 ^ m ≡ little s at m
+little-lowest s byte at m small h =
+    let eight : m + (8 - m) ≡ 8 = omega arith in
+    ap (λ (n : ℕ). n % 256 ^ m) (rw eight at (little-ends s at m (8 - m) h)) ∙ mod-eq_of_lt (little-lt s byte at m)

@@ -6,7 +6,7 @@ use mathlib.Core.Bool.{Bool, true, false, not, ◌&&◌, true≢false}
 use lib.Dec.{T, eqb, ltb, ltb→lt, lt→ltb}
 use native.Mathlib.Decide.{dec_le}
 use native.Mathlib.Omega.{arith}
-use lib.Ieee.{Float, nan, inf, fin, Format, binary32, binary64, up, down, div, ne, eq, hid, ones, top, of_bits, to_bits, nan_bits, is_nan, fits}
+use lib.Ieee.{Float, nan, inf, fin, Format, binary32, binary64, up, down, ne, eq, hid, ones, top, of_bits, to_bits, nan_bits, is_nan, fits}
 use lib.Ieee.Bits.{nan_bits_above, nan_bits_is, of_bits-to_bits, of_bits-fits, to_bits-of_bits}
 use mir.Val.{Fits, width_of}
 use mir.ValLaws.{top-pow}
@@ -69,14 +69,18 @@ is-nan nan h = refl
 is-nan (inf s) h = absurd (true≢false (sym h))
 is-nan (fin s m e) h = absurd (true≢false (sym h))
 
--- dividing zero by zero makes one
-zero_by_zero : (f : Format) → div f (of_bits f 0) (of_bits f 0) ≡ nan
-unfolding div of_bits
-zero_by_zero binary32 = refl
-zero_by_zero binary64 = refl
+-- the quiet one, with no sign, by its pattern
+abbrev quiet : Format → ℕ
+quiet binary32 = 0x7fc0_0000
+quiet binary64 = 0x7ff8_0000_0000_0000
 
-pub made-nan : (f : Format) (p : ℕ) → nan_bits f p ≡ true → div f (of_bits f 0) (of_bits f 0) ≡ of_bits f p
-made-nan f p h = zero_by_zero f ∙ is-nan (of_bits f p) (sym (nan_bits_is f p) ∙ h)
+quiet-is : (f : Format) → of_bits f (quiet f) ≡ nan
+unfolding of_bits
+quiet-is binary32 = refl
+quiet-is binary64 = refl
+
+pub made-nan : (f : Format) (p : ℕ) → nan_bits f p ≡ true → of_bits f (quiet f) ≡ of_bits f p
+made-nan f p h = quiet-is f ∙ is-nan (of_bits f p) (sym (nan_bits_is f p) ∙ h)
 
 ne-itself : (x : Float) → ne x x ≡ is_nan x
 unfolding ne eq is_nan

@@ -2,7 +2,8 @@
 // the crates that compare integers and floats.
 #![tactic(auto)]
 
-ghost use Rattle.std.specs.Prelude.{◌≡◌, cond, ◌+◌, ◌-◌, ◌%◌, ◌≤◌, ◌<◌, leb, length, get_or};
+ghost use Rattle.std.specs.Prelude.{◌≡◌, ℕ, cond, ◌+◌, ◌-◌, ◌%◌, ◌^◌, ◌≤◌, ◌<◌, leb, length, take, get_or};
+ghost use Rattle.std.proofs.Common.{lit≤};
 ghost use Rattle.std.proofs.lemmas.List.Edits.{sets};
 ghost use Rattle.order.specs.Little.{little, first_of_two, second_of_two, bytes_of};
 
@@ -17,32 +18,14 @@ pub fn byte_at(s: &[u8], at: usize) -> u64
 pub fn u32_at(s: &[u8], at: usize) -> u32
     ensures { result ≡ little s.now at 4 }
 {
-    let n = s.len();
-    if at <= n {
-        if 4 <= n - at {
-            four(s, at)
-        } else {
-            rest(s, at) as u32
-        }
-    } else {
-        0
-    }
+    word_at(s, at)
 }
 
 // The eight bytes at a place. A byte past the end counts 0.
 pub fn u64_at(s: &[u8], at: usize) -> u64
     ensures { result ≡ little s.now at 8 }
 {
-    let n = s.len();
-    if at <= n {
-        if 8 <= n - at {
-            eight(s, at)
-        } else {
-            rest(s, at)
-        }
-    } else {
-        0
-    }
+    word_at(s, at)
 }
 
 // The four bytes of a number go to a place, if they all fit there.
@@ -50,12 +33,7 @@ pub fn put_u32(out: &mut [u8], at: usize, x: u32)
     ensures { out.new ≡ cond (leb (at + 4) (length out.old))
         (sets out.old at (bytes_of 4 x)) out.old }
 {
-    let n = out.len();
-    if at <= n {
-        if 4 <= n - at {
-            store_four(out, at, x);
-        }
-    }
+    put(out, at, x);
 }
 
 // The eight bytes of a number, likewise.
@@ -63,13 +41,7 @@ pub fn put_u64(out: &mut [u8], at: usize, x: u64)
     ensures { out.new ≡ cond (leb (at + 8) (length out.old))
         (sets out.old at (bytes_of 8 x)) out.old }
 {
-    let n = out.len();
-    if at <= n {
-        if 8 <= n - at {
-            store_four(out, at, (x % 0x1_0000_0000) as u32);
-            store_four(out, at + 4, (x / 0x1_0000_0000) as u32);
-        }
-    }
+    put(out, at, x);
 }
 
 // Bytes go to a place, if they all fit there.
@@ -80,53 +52,164 @@ pub fn copy(out: &mut [u8], at: usize, bytes: &[u8])
     let n = out.len();
     if at <= n {
         if bytes.len() <= n - at {
-            store_all(out, at, bytes);
+            out[at..at + bytes.len()].copy_from_slice(bytes);
         }
+    }
+}
+
+// A number of four bytes or of eight.
+pub trait Word: Copy {
+    const SIZE: usize;
+
+    ghost SIZE: { ℕ };
+
+    ghost number: { Self → ℕ };
+
+    // The number of the first of eight bytes, as many as it has, the lowest first.
+    fn of_le(bytes: [u8; 8]) -> Self
+        ensures { number result ≡ little bytes 0 SIZE };
+
+    // Its bytes, the lowest first, and others after them.
+    fn to_le(self) -> [u8; 8]
+        ensures { take SIZE result ≡ bytes_of SIZE (number self) };
+
+    // The lowest bytes of a number.
+    fn lowest(x: u64) -> Self
+        ensures { number result ≡ x % 256 ^ SIZE };
+
+    // Whether two of them, one after the other, are there from a place of n bytes on.
+    fn two_fit(n: usize, at: usize) -> bool
+        ensures { result ≡ leb (at + (SIZE + SIZE)) n };
+
+    ghost small: { SIZE ≤ 8 };
+}
+
+impl Word for u32 {
+    const SIZE: usize = 4;
+
+    ghost SIZE = { 4 };
+
+    ghost number = { λ x. x };
+
+    fn of_le(bytes: [u8; 8]) -> u32 {
+        u32::from_le_bytes([bytes[0], bytes[1], bytes[2], bytes[3]])
+    }
+
+    fn to_le(self) -> [u8; 8] {
+        (self as u64).to_le_bytes()
+    }
+
+    ghost small = { lit≤ tt };
+
+    fn lowest(x: u64) -> u32 {
+        (x % 0x1_0000_0000) as u32
+    }
+
+    // The compiler makes one of the two comparisons itself, where it knows that a box has a multiple of eight bytes.
+    fn two_fit(n: usize, at: usize) -> bool {
+        at <= n && 8 <= n - at
+    }
+}
+
+impl Word for u64 {
+    const SIZE: usize = 8;
+
+    ghost SIZE = { 8 };
+
+    ghost number = { λ x. x };
+
+    fn of_le(bytes: [u8; 8]) -> u64 {
+        u64::from_le_bytes([
+            bytes[0], bytes[1], bytes[2], bytes[3], bytes[4], bytes[5], bytes[6], bytes[7],
+        ])
+    }
+
+    fn to_le(self) -> [u8; 8] {
+        self.to_le_bytes()
+    }
+
+    ghost small = { lit≤ tt };
+
+    fn lowest(x: u64) -> u64 {
+        x
+    }
+
+    // One comparison tells it.
+    fn two_fit(n: usize, at: usize) -> bool {
+        16 <= bytes_left(n, at)
     }
 }
 
 // The two ends of a range.
 #[derive(Clone, Copy)]
-pub struct Pair32 {
-    pub low: u32,
-    pub high: u32,
+pub struct Pair<W> {
+    pub low: W,
+    pub high: W,
 }
 
-#[derive(Clone, Copy)]
-pub struct Pair64 {
-    pub low: u64,
-    pub high: u64,
+// Two numbers, one after the other. Where their bytes are not all there, both count 0: with nothing else to do there, a
+// caller's loop takes the reads in whole.
+pub fn pair_at<W: Word>(s: &[u8], at: usize) -> Pair<W>
+    ensures { (W.number result.low ≡ first_of_two s.now at W.SIZE) × (W.number result.high ≡ second_of_two s.now at W.SIZE) }
+{
+    if W::two_fit(s.len(), at) {
+        return Pair {
+            low: there(s, at),
+            high: there(s, at + W::SIZE),
+        };
+    }
+    Pair {
+        low: W::lowest(0),
+        high: W::lowest(0),
+    }
 }
 
-// Two numbers of four bytes, one after the other. Where their eight bytes are not all there, both count 0: with nothing
-// else to do there, a caller's loop takes the reads in whole.
-pub fn pair32_at(s: &[u8], at: usize) -> Pair32
-    ensures { (result.low ≡ first_of_two s.now at 4) × (result.high ≡ second_of_two s.now at 4) }
+// The number at a place. A byte past the end counts 0.
+fn word_at<W: Word>(s: &[u8], at: usize) -> W
+    ensures { W.number result ≡ little s.now at W.SIZE }
 {
     let n = s.len();
     if at <= n {
-        if 8 <= n - at {
-            return Pair32 {
-                low: four(s, at),
-                high: four(s, at + 4),
-            };
+        if W::SIZE <= n - at {
+            there(s, at)
+        } else {
+            W::lowest(rest(s, at))
         }
+    } else {
+        W::lowest(0)
     }
-    Pair32 { low: 0, high: 0 }
 }
 
-// Two numbers of eight bytes, likewise. One comparison tells whether they are there; above, the compiler makes one of
-// the two itself, where it knows that a box has a multiple of eight bytes.
-pub fn pair64_at(s: &[u8], at: usize) -> Pair64
-    ensures { (result.low ≡ first_of_two s.now at 8) × (result.high ≡ second_of_two s.now at 8) }
+// All of its bytes are there. This compiles to one load.
+fn there<W: Word>(s: &[u8], at: usize) -> W
+    requires { at + W.SIZE ≤ length s.now }
+    ensures { W.number result ≡ little s.now at W.SIZE }
 {
-    if 16 <= bytes_left(s.len(), at) {
-        return Pair64 {
-            low: eight(s, at),
-            high: eight(s, at + 8),
-        };
+    let mut bytes = [0u8; 8];
+    bytes[..W::SIZE].copy_from_slice(&s[at..at + W::SIZE]);
+    W::of_le(bytes)
+}
+
+// The room for all of its bytes is there. This compiles to one store.
+fn store<W: Word>(x: W, out: &mut [u8], at: usize)
+    requires { at + W.SIZE ≤ length out.old }
+    ensures { out.new ≡ sets out.old at (bytes_of W.SIZE (W.number x)) }
+{
+    let bytes = x.to_le();
+    out[at..at + W::SIZE].copy_from_slice(&bytes[..W::SIZE]);
+}
+
+// The bytes of a number go to a place, if they all fit there.
+fn put<W: Word>(out: &mut [u8], at: usize, x: W)
+    ensures { out.new ≡ cond (leb (at + W.SIZE) (length out.old))
+        (sets out.old at (bytes_of W.SIZE (W.number x))) out.old }
+{
+    let n = out.len();
+    if at <= n {
+        if W::SIZE <= n - at {
+            store(x, out, at);
+        }
     }
-    Pair64 { low: 0, high: 0 }
 }
 
 // How many of n bytes are left from a place on.
@@ -136,83 +219,19 @@ fn bytes_left(n: usize, at: usize) -> usize
     if at < n { n - at } else { 0 }
 }
 
-// All four bytes are there. With one `let` a byte this compiles to one load.
-fn four(s: &[u8], at: usize) -> u32
-    requires { at + 4 ≤ length s.now }
-    ensures { result ≡ little s.now at 4 }
-{
-    let a = wide32(s[at]);
-    let b = wide32(s[at + 1]);
-    let c = wide32(s[at + 2]);
-    let d = wide32(s[at + 3]);
-    a + 256 * (b + 256 * (c + 256 * d))
-}
-
-// All eight bytes are there.
-fn eight(s: &[u8], at: usize) -> u64
-    requires { at + 8 ≤ length s.now }
-    ensures { result ≡ little s.now at 8 }
-{
-    let low = four(s, at);
-    let high = four(s, at + 4);
-    low as u64 + 0x1_0000_0000 * (high as u64)
-}
-
-// The room for all four bytes is there. With one store a byte this compiles to one store.
-fn store_four(out: &mut [u8], at: usize, x: u32)
-    requires { at + 4 ≤ length out.old }
-    ensures { out.new ≡ sets out.old at (bytes_of 4 x) }
-{
-    let second = x / 256;
-    let third = second / 256;
-    let fourth = third / 256;
-    out[at] = lowest(x);
-    out[at + 1] = lowest(second);
-    out[at + 2] = lowest(third);
-    out[at + 3] = lowest(fourth);
-}
-
-// The room for all the bytes is there.
-fn store_all(out: &mut [u8], at: usize, bytes: &[u8])
-    requires { at + length bytes.now ≤ length out.old }
-    ensures { out.new ≡ sets out.old at bytes.now }
-{
-    let mut i: usize = 0;
-    while i < bytes.len() {
-        out[at + i] = bytes[i];
-        i += 1;
-    }
-}
-
-// The lowest byte of a number.
-fn lowest(x: u32) -> u8
-    ensures { result ≡ x % 256 }
-{
-    (x % 256) as u8
-}
-
 // Fewer than eight bytes are left: the number of those, which is that of eight.
 fn rest(s: &[u8], at: usize) -> u64
     requires { (at ≤ length s.now) × (length s.now < at + 8) }
     ensures { result ≡ little s.now at 8 }
 {
     let mut number: u64 = 0;
-    let mut i = s.len();
-    while at < i {
-        i -= 1;
-        let low = wide64(s[i]);
-        number = low + 256 * number;
+    for i in (at..s.len()).rev() {
+        number = wide64(s[i]) + 256 * number;
     }
     number
 }
 
 // A byte by its contract alone: an index that is cast in place would ask each time that the byte fits.
-fn wide32(x: u8) -> u32
-    ensures { (result ≡ x) × (result < 256) }
-{
-    x as u32
-}
-
 fn wide64(x: u8) -> u64
     ensures { (result ≡ x) × (result < 256) }
 {

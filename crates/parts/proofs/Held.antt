@@ -20,7 +20,7 @@ use Rattle.parts_state.specs.declared.Cursor.{Cursor}
 use Rattle.parts_state.specs.declared.Parts.{Parts}
 use Rattle.parts_state.specs.Code.State.{item_bytes, InTree, Going}
 use Rattle.parts.specs.Code.Cursor.{with_cursor, keeping}
-use Rattle.parts.specs.Code.Steps.{InRange, Gathered, Reads, Some}
+use Rattle.parts.specs.Code.Steps.{InRange, Gathered, Reads, Part, Whole}
 use Rattle.parts.proofs.Lists.{read_first, read-there, upto}
 
 module _ {d : Description} {F : ℕ} {footer : List ℕ} {stated : ℕ} {body work : List ℕ} {s : Parts} {p : ℕ}
@@ -155,34 +155,6 @@ module _ {held : List ℕ} {kept : ℕ} {bytes : List ℕ} {item have : ℕ} {af
     pub from-item : 0 < have → length from ≡ item
     from-item l = rw (from-held l, length-take) (omega (arith, h.room))
 
-    pub from-size : item ≤ length from
-    from-size = go (dec_le 1 have)
-      where
-        go : Dec (1 ≤ have) → item ≤ length from
-        go (yes l) = omega (arith, from-item l)
-        go (no l) =
-            let z : have ≡ 0 = omega arith in
-            rw (from_block z) (h.none z).1
-
-    -- the state that holds none any more is in range for them
-    pub whole-range : {stated b : ℕ} {c : Cursor} → c.kept ≡ kept → item ≡ item_bytes b c.counted
-        → InRange stated b c (length bytes) → InRange stated b (keeping c 0) (length from)
-    whole-range {stated} {b} {c} k own r = record {
-      most = r.most;
-      within = r.within;
-      fanout = r.fanout;
-      own = r.own;
-      parents = r.parents;
-      part = omega (arith, own);
-      room = go (dec_le 1 have);
-    }
-      where
-        go : Dec (1 ≤ have) → length from ≤ stated - (c.done + 0)
-        go (yes l) = omega (arith, from-item l, h.some l, have-item l, r.room, k)
-        go (no l) =
-            let z : have ≡ 0 = omega arith in
-            rw (from_block z) (omega (arith, (h.none z).0, r.room, k))
-
 module _ {d : Description} {F : ℕ} {footer : List ℕ} {stated : ℕ} {body work : List ℕ} {s : Parts} {p : ℕ}
     (g : Going d F footer stated body work s p) {bytes : List ℕ} (r : Reads body p bytes) (some : 0 < length bytes)
     (fits : p + length bytes ≤ stated) {item have : ℕ} {held : List ℕ} (own : item ≡ item_bytes (bytes_of_box d) s.cursor.counted)
@@ -207,7 +179,7 @@ module _ {d : Description} {F : ℕ} {footer : List ℕ} {stated : ℕ} {body wo
 
   -- some of it is there
   pub part-holds : s.cursor.number ≡ 0 → 0 < have → have < item
-      → Some d F footer stated body work (with_cursor s held (keeping s.cursor have)) p (length bytes)
+      → Part d F footer stated body work (with_cursor s held (keeping s.cursor have)) p (length bytes)
   part-holds zero l short =
       let now : s.cursor.kept + length (take (have - s.cursor.kept) bytes) ≡ have = omega (arith, size, h.some l) in
       record {
@@ -262,3 +234,17 @@ module _ {d : Description} {F : ℕ} {footer : List ℕ} {stated : ℕ} {body wo
             onward = λ m o. omega (arith, part-item);
             upto = λ m o. omega (arith, ap length block);
           }
+
+  -- and what is taken of it is some of the bytes
+  pub whole-part : {from : List ℕ} (t : Stands from) {after : List ℕ} {q : Parts} → Whole d F footer stated body after q t.start item (length from)
+      → Part d F footer stated body after q p (length bytes)
+  whole-part t w =
+      let on = t.onward w.taken w.least in
+      let up = t.upto w.taken w.few in
+      let place : p + (t.start + w.taken - p) ≡ t.start + w.taken = omega (arith, on) in
+      record {
+        taken = t.start + w.taken - p;
+        some = omega (arith, on);
+        few = omega (arith, on, up);
+        holds = rw place w.holds;
+      }

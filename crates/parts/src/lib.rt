@@ -2,9 +2,10 @@
 // what they came to.
 #![tactic(auto)]
 
-ghost use Rattle.std.specs.Prelude.{◌≡◌, true, ◌&&◌, cond, ◌-◌, ◌+◌, ◌≤◌, ◌<◌, eqb, length, take, drop};
+ghost use Rattle.std.specs.Prelude.{◌≡◌, ℕ, true, Some, ◌-◌, ◌+◌, ◌≤◌, ◌<◌, length, take, drop};
 ghost use Rattle.answers.specs.Refusals.{refusal};
 ghost use Rattle.answers.specs.Checks.{otherwise, each};
+ghost use Rattle.answers.specs.Told.{number_of, told};
 ghost use Rattle.description.specs.Description.{bytes_of_box};
 ghost use Rattle.tree.specs.Shape.{most_box_bytes, shape_of};
 ghost use Rattle.parts_state.specs.Parts.{front_shown, which_of, parts_answer};
@@ -12,10 +13,10 @@ ghost use Rattle.parts_state.specs.Took.{Carries, Answers};
 ghost use Rattle.parts_state.specs.Code.State.{item_bytes};
 ghost use Rattle.parts.specs.Code.Cursor.{with_cursor, refused, keeping, fronted, counted, moved, lowered, passed};
 ghost use Rattle.parts.specs.Code.Runs.{child_check, run_check};
-ghost use Rattle.parts.specs.Code.Steps.{InRange, RunOf, Gathered, inner_in};
-ghost use Rattle.parts.specs.Code.Steps.{SameRoom, Stored, Takes, TakesSome, TakesNumber, TakesRun, Ends};
+ghost use Rattle.parts.specs.Code.Steps.{InRange, RunOf, Gathered, held_of, inner_in};
+ghost use Rattle.parts.specs.Code.Steps.{SameRoom, Stored, Takes, TakesSome, TakesWhole, TakesNumber, TakesRun, Ends};
 
-use answers::Refusal;
+use answers::{Reason, Refusal, Refused};
 use description::Description;
 use parts_state::{Cursor, Parts};
 use rtree::Opened;
@@ -36,11 +37,11 @@ pub fn block(parts: Parts, work: &mut [u8], bytes: &[u8]) -> Parts
         return parts;
     }
     let room = room_left(parts.stated, c.done, c.kept);
-    let all = answers::lesser(room as usize, bytes.len());
+    let all = bytes.len().min(room as usize);
     let mut held = parts.held;
     let r = take(parts, c, &mut held, work, &bytes[..all]);
-    if both(all < bytes.len(), r.number == 0) {
-        let over = refuse(r, Refusal::BYTES, parts.stated, 1);
+    if r.number == 0 && all < bytes.len() {
+        let over = refuse(r, Reason::Bytes.at(parts.stated), 1);
         return with_cursor(parts, over, held);
     }
     with_cursor(parts, r, held)
@@ -59,7 +60,7 @@ pub fn finish(parts: Parts, work: &[u8]) -> Opened
     }
     let room = room_left(parts.stated, c.done, c.kept);
     if 0 < room {
-        return rtree::refused_in(1, Refusal::BYTES, parts.stated - room);
+        return rtree::refused_in(1, Reason::Bytes.number(), parts.stated - room);
     }
     if c.box_number != 0 {
         return rtree::refused_in(1, c.box_number, c.box_place);
@@ -86,13 +87,9 @@ pub fn open_in_blocks(
     ensures { result ≡ parts_answer description file_size footer.now (length body.now)
         (length work.old) body.now }
 {
-    let most = if size == 0 { 1 } else { size };
     let mut s = parts_state::start(description, file_size, footer, body.len() as u64);
-    let mut at: usize = 0;
-    while at < body.len() {
-        let end = at + answers::lesser(most, body.len() - at);
-        s = block(s, work, &body[at..end]);
-        at = end;
+    for bytes in body.chunks(size.max(1)) {
+        s = block(s, work, bytes);
     }
     finish(s, work)
 }
@@ -106,96 +103,93 @@ fn finish_front(parts: Parts, room: usize) -> Opened
     let c = parts.cursor;
     let kept = c.kept;
     let box_bytes = parts.description.box_bytes();
-    let told = check_front(parts.tiles, box_bytes, parts.stated, room, kept, fanout, 0);
-    if told.number != 0 {
-        return rtree::refused_in(which_of(told.number), told.number, told.place);
+    match check_front(parts.tiles, box_bytes, parts.stated, room, kept, fanout, 0) {
+        Ok(()) => rtree::refused_in(1, Reason::Bytes.number(), kept as u64),
+        Err(e) => rtree::refused_in(which_of(e.reason), e.reason.number(), e.place),
     }
-    rtree::refused_in(1, Refusal::BYTES, kept as u64)
 }
 
 // The work buffer is neither footer nor body: 21 says the first.
-fn which_of(number: u64) -> u64
-    ensures { result ≡ which_of number }
+#[tactic(auto, unfolding(answers::specs::Told::number_of))]
+fn which_of(reason: Reason) -> u64
+    ensures { result ≡ which_of (number_of reason) }
 {
-    if number == Refusal::WORK { 0 } else { 1 }
+    if reason == Reason::Work { 0 } else { 1 }
 }
 
 fn with_cursor(parts: Parts, cursor: Cursor, held: [u8; 64]) -> Parts
     ensures { result ≡ with_cursor parts held cursor }
 {
-    let description = parts.description;
-    let domain = parts.domain;
     Parts {
-        description: description,
-        tiles: parts.tiles,
-        domain: domain,
-        stated: parts.stated,
-        cursor: cursor,
-        held: held,
+        cursor,
+        held,
+        ..parts
     }
 }
 
 // Refused for good.
-fn refuse(cursor: Cursor, number: u64, place: u64, which: u64) -> Cursor
-    ensures { result ≡ refused cursor which number place }
+fn refuse(cursor: Cursor, e: Refused, which: u64) -> Cursor
+    ensures { result ≡ refused cursor which (number_of e.reason) e.place }
 {
-    let mut c = cursor;
-    c.number = number;
-    c.place = place;
-    c.which = which;
-    c
+    Cursor {
+        number: e.reason.number(),
+        place: e.place,
+        which,
+        ..cursor
+    }
 }
 
 // With so many bytes held of what comes next.
 fn keep(cursor: Cursor, kept: usize) -> Cursor
     ensures { result ≡ keeping cursor kept }
 {
-    let mut c = cursor;
-    c.kept = kept;
-    c
+    Cursor { kept, ..cursor }
 }
 
 // Past the fanout and L, at the root's count.
 fn fronted(cursor: Cursor, fanout: usize, levels: usize, level: usize) -> Cursor
     ensures { result ≡ fronted cursor fanout levels level }
 {
-    let mut c = cursor;
-    c.fanout = fanout;
-    c.levels = levels;
-    c.level = level;
-    c.counted = 0;
-    c.count = 0;
-    c.index = 0;
-    c.own = 0;
-    c.parents = 0;
-    c.done = 8;
-    c.box_number = 0;
-    c.box_place = 0;
-    c
+    Cursor {
+        fanout,
+        levels,
+        level,
+        counted: 0,
+        count: 0,
+        index: 0,
+        own: 0,
+        parents: 0,
+        done: 8,
+        box_number: 0,
+        box_place: 0,
+        ..cursor
+    }
 }
 
 // Past a level's count, at its first box.
 fn counted(cursor: Cursor, count: usize, done: u64) -> Cursor
     ensures { result ≡ counted cursor count done }
 {
-    let mut c = cursor;
-    c.counted = 1;
-    c.count = count;
-    c.index = 0;
-    c.done = done;
-    c
+    Cursor {
+        counted: 1,
+        count,
+        index: 0,
+        done,
+        ..cursor
+    }
 }
 
 // Past some boxes of a level, at box `index` of it.
 fn moved(cursor: Cursor, index: usize, done: u64, fault: Refusal) -> Cursor
     ensures { result ≡ moved cursor index done fault }
 {
-    let mut c = cursor;
-    c.index = index;
-    c.done = done;
-    c.box_number = fault.number;
-    c.box_place = fault.place;
-    c
+    Cursor {
+        index,
+        done,
+        box_number: fault.number,
+        box_place: fault.place,
+        ..cursor
+    }
 }
 
 // Past a level's last box, at the count of the level below, whose boxes go to `own` of the work buffer.
@@ -203,28 +197,22 @@ fn lowered(cursor: Cursor, own: usize) -> Cursor
     requires { 0 < cursor.level }
     ensures { result ≡ lowered cursor own }
 {
-    let mut c = cursor;
-    c.level = cursor.level - 1;
-    c.counted = 0;
-    c.count = 0;
-    c.index = 0;
-    c.parents = cursor.own;
-    c.own = own;
-    c
+    Cursor {
+        level: cursor.level - 1,
+        counted: 0,
+        count: 0,
+        index: 0,
+        parents: cursor.own,
+        own,
+        ..cursor
+    }
 }
 
 // The bytes that are still to come.
 fn room_left(stated: u64, done: u64, kept: usize) -> u64
     ensures { result ≡ stated - (done + kept) }
 {
-    if stated <= done {
-        return 0;
-    }
-    let room = stated - done;
-    if room <= kept as u64 {
-        return 0;
-    }
-    room - kept as u64
+    stated.saturating_sub(done).saturating_sub(kept as u64)
 }
 
 // Bytes within the stated length, number by number and row by row. A state that is not the last call's may be out of
@@ -239,26 +227,21 @@ fn take(parts: Parts, cursor: Cursor, held: &mut [u8], work: &mut [u8], bytes: &
     let stated = parts.stated;
     let box_bytes = parts.description.box_bytes();
     let mut c = cursor;
-    let mut at: usize = 0;
-    while at < bytes.len() {
-        let left = bytes.len() - at;
-        if !in_range(stated, box_bytes, c, left) {
+    let mut rest = bytes;
+    while !rest.is_empty() {
+        if !in_range(stated, box_bytes, c, rest.len()) {
             return c;
         }
         let before = room_left(stated, c.done, c.kept);
-        c = step(parts, box_bytes, c, held, work, &bytes[at..]);
+        c = step(parts, box_bytes, c, held, work, rest);
         if c.number != 0 {
             return c;
         }
-        let after = room_left(stated, c.done, c.kept);
-        if before <= after {
+        let taken = before.saturating_sub(room_left(stated, c.done, c.kept));
+        if taken == 0 || (rest.len() as u64) < taken {
             return c;
         }
-        let more = before - after;
-        if (left as u64) < more {
-            return c;
-        }
-        at += more as usize;
+        rest = &rest[taken as usize..];
     }
     c
 }
@@ -267,28 +250,13 @@ fn take(parts: Parts, cursor: Cursor, held: &mut [u8], work: &mut [u8], bytes: &
 fn in_range(stated: u64, box_bytes: usize, c: Cursor, left: usize) -> bool
     ensures { (result ≡ true → InRange stated box_bytes c left) × (InRange stated box_bytes c left → result ≡ true) }
 {
-    if Description::MOST_TILES < c.count as u64 {
-        return false;
-    }
-    if c.count < c.index {
-        return false;
-    }
-    if (Description::MOST_FANOUT as usize) < c.fanout {
-        return false;
-    }
-    if MOST_WORK < c.own {
-        return false;
-    }
-    if MOST_WORK < c.parents {
-        return false;
-    }
-    if item_bytes(box_bytes, c.counted) <= c.kept {
-        return false;
-    }
-    if room_left(stated, c.done, c.kept) < left as u64 {
-        return false;
-    }
-    true
+    c.count as u64 <= Description::MOST_TILES
+        && c.index <= c.count
+        && c.fanout <= Description::MOST_FANOUT as usize
+        && c.own <= MOST_WORK
+        && c.parents <= MOST_WORK
+        && c.kept < item_bytes(box_bytes, c.counted)
+        && left as u64 <= room_left(stated, c.done, c.kept)
 }
 
 // The bytes of what comes next: the fanout and L together, a count, or a box.
@@ -318,48 +286,56 @@ fn step(
         (with_cursor parts held.new result) work.new }
 {
     let item = item_bytes(box_bytes, cursor.counted);
-    let have = gather(held, cursor.kept, bytes, item);
-    if both(0 < have, have < item) {
-        return keep(cursor, have);
+    let next = keep(cursor, 0);
+    match gather(held, cursor.kept, bytes, item) {
+        None => take_item(parts, box_bytes, next, work, bytes),
+        Some(have) if have < item => keep(cursor, have),
+        Some(_) => take_item(parts, box_bytes, next, work, &held[..item]),
     }
-    let from = whole_of(held, bytes, have, item);
-    let c = keep(cursor, 0);
-    if c.counted == 0 {
-        return take_number(parts, box_bytes, c, work.len(), &from[..8]);
+}
+
+// The number that comes next, or as many boxes of the level as are there, from bytes that have what comes next whole.
+fn take_item(
+    parts: Parts,
+    box_bytes: usize,
+    cursor: Cursor,
+    work: &mut [u8],
+    bytes: &[u8],
+) -> Cursor
+    requires box_bytes_value { box_bytes ≡ bytes_of_box parts.description }
+    requires in_range { InRange parts.stated box_bytes cursor (length bytes.now) }
+    requires whole { item_bytes box_bytes cursor.counted ≤ length bytes.now }
+    requires number_value { cursor.number ≡ 0 }
+    requires kept_value { cursor.kept ≡ 0 }
+    ensures room { length work.new ≡ length work.old }
+    ensures took { TakesWhole parts cursor work.old bytes.now (item_bytes box_bytes cursor.counted) result work.new }
+{
+    if cursor.counted == 0 {
+        return take_number(parts, box_bytes, cursor, work.len(), &bytes[..8]);
     }
-    if c.count <= c.index {
-        return c;
+    if cursor.count <= cursor.index {
+        return cursor;
     }
-    let boxes = answers::lesser(c.count - c.index, from.len() / box_bytes);
+    let boxes = (cursor.count - cursor.index).min(bytes.len() / box_bytes);
     let whole = boxes * box_bytes;
-    take_boxes(parts, box_bytes, c, work, &from[..whole], boxes)
+    take_boxes(parts, box_bytes, cursor, work, &bytes[..whole], boxes)
 }
 
 // Holds what is there of what comes next, after what is held of it already, and tells how many bytes of it are held
-// then; 0, and nothing is held, where it stands whole in the block.
-fn gather(held: &mut [u8], kept: usize, bytes: &[u8], item: usize) -> usize
+// then. Nothing is held where it stands whole in the block.
+fn gather(held: &mut [u8], kept: usize, bytes: &[u8], item: usize) -> Option<usize>
     requires kept_lt_item { kept < item }
     requires item_in_bounds { item ≤ length held.old }
     requires bytes_nonzero { 0 < length bytes.now }
-    ensures { Gathered held.old kept bytes.now item result held.new }
+    ensures gathered { Gathered held.old kept bytes.now item (held_of result) held.new }
+    ensures some { (have : ℕ) → result ≡ Some have → 0 < have }
 {
-    if both(kept == 0, item <= bytes.len()) {
-        return 0;
+    if kept == 0 && item <= bytes.len() {
+        return None;
     }
-    let more = answers::lesser(item - kept, bytes.len());
+    let more = (item - kept).min(bytes.len());
     order::copy(held, kept, &bytes[..more]);
-    kept + more
-}
-
-// The bytes from which what comes next is taken: those that are held of it, or the block's.
-fn whole_of<'a>(held: &'a [u8], bytes: &'a [u8], have: usize, item: usize) -> &'a [u8]
-    requires { item ≤ length held.now }
-    ensures { result.now ≡ cond (eqb have 0) bytes.now (take item held.now) }
-{
-    if have == 0 {
-        return bytes;
-    }
-    &held[..item]
+    Some(kept + more)
 }
 
 // The fanout and L, or a count.
@@ -385,7 +361,7 @@ fn take_front(parts: Parts, box_bytes: usize, cursor: Cursor, room: usize, bytes
 {
     let fanout = order::u32_at(bytes, 0) as usize;
     let levels = order::u32_at(bytes, 4) as usize;
-    let told = check_front(
+    let checked = check_front(
         parts.tiles,
         box_bytes,
         parts.stated,
@@ -394,16 +370,14 @@ fn take_front(parts: Parts, box_bytes: usize, cursor: Cursor, room: usize, bytes
         fanout,
         levels,
     );
-    if told.number != 0 {
-        return refuse(cursor, told.number, told.place, which_of(told.number));
+    match checked {
+        Ok(()) => fronted(cursor, fanout, levels, levels.saturating_sub(1)),
+        Err(e) => refuse(cursor, e, which_of(e.reason)),
     }
-    if levels == 0 {
-        return cursor;
-    }
-    fronted(cursor, fanout, levels, levels - 1)
 }
 
 // The shape before the counts, and the work buffer's room, as far as so many bytes show them.
+#[tactic(auto, unfolding(parts_state::specs::Parts::front_shown, answers::specs::Checks::first, answers::specs::Told::number_of, answers::specs::Told::told))]
 fn check_front(
     tiles: u64,
     box_bytes: usize,
@@ -412,35 +386,19 @@ fn check_front(
     have: usize,
     fanout: usize,
     levels: usize,
-) -> Refusal
+) -> Result<(), Refused>
     requires { box_bytes ≤ most_box_bytes }
-    ensures { result ≡ front_shown stated room have fanout levels (shape_of fanout tiles box_bytes).levels
+    ensures { told result ≡ front_shown stated room have fanout levels (shape_of fanout tiles box_bytes).levels
         (shape_of fanout tiles box_bytes).bytes (inner_in fanout tiles box_bytes) }
 {
     let shape = tree::shape_of(tiles as usize, fanout, box_bytes);
-    let inner = inner_boxes(shape.boxes, tiles as usize);
-    let no_fanout = both(4 <= have, Description::fanout_outside(fanout as u64));
-    let no_levels = both(8 <= have, levels != shape.levels);
-    let no_whole = both(4 <= have, stated != shape.bytes as u64);
-    let no_room = both(4 <= have, room < box_bytes * inner);
-    Refusal::when(stated < 8, Refusal::BYTES, stated)
-        .or(Refusal::when(no_fanout, Refusal::FANOUT, 0))
-        .or(Refusal::when(no_levels, Refusal::LEVELS, 4))
-        .or(Refusal::when(no_whole, Refusal::BYTES, stated))
-        .or(Refusal::when(no_room, Refusal::WORK, 0))
-}
-
-fn both(a: bool, b: bool) -> bool
-    ensures { result ≡ (a && b) }
-{
-    if a { b } else { false }
-}
-
-// All boxes but the leaves.
-fn inner_boxes(boxes: usize, tiles: usize) -> usize
-    ensures { result ≡ boxes - tiles }
-{
-    if boxes < tiles { 0 } else { boxes - tiles }
+    let inner = box_bytes * shape.boxes.saturating_sub(tiles as usize);
+    let no_fanout = Description::fanout_outside(fanout as u64);
+    Reason::Bytes.when(stated < 8, stated)?;
+    Reason::Fanout.when(4 <= have && no_fanout, 0)?;
+    Reason::Levels.when(8 <= have && levels != shape.levels, 4)?;
+    Reason::Bytes.when(4 <= have && stated != shape.bytes as u64, stated)?;
+    Reason::Work.when(4 <= have && room < inner, 0)
 }
 
 // A level's count.
@@ -460,7 +418,7 @@ fn take_count(parts: Parts, box_bytes: usize, cursor: Cursor, room: usize, bytes
     let table = shape.table;
     let count = tree::count_in(&table, level);
     if order::u64_at(bytes, 0) != count as u64 {
-        return refuse(cursor, Refusal::LEVELS, cursor.done, 1);
+        return refuse(cursor, Reason::Levels.at(cursor.done), 1);
     }
     counted(cursor, count, cursor.done + 8)
 }
@@ -481,8 +439,9 @@ fn take_boxes(
     let most = if cursor.level == 0 { boxes } else { RUN };
     let mut c = cursor;
     let mut i: usize = 0;
+    // the last run may have fewer
     while i < boxes {
-        let more = answers::lesser(most, boxes - i);
+        let more = most.min(boxes - i);
         let from = i * box_bytes;
         let to = from + more * box_bytes;
         c = take_run(parts, box_bytes, c, work, &bytes[from..to], more);
@@ -526,7 +485,7 @@ fn pass(cursor: Cursor, own: usize) -> Cursor
     lowered(cursor, own)
 }
 
-// The first fault of a box so far.
+// The first fault of a box so far, in numbers as the state has them.
 fn check_boxes(
     parts: Parts,
     box_bytes: usize,
@@ -547,14 +506,15 @@ fn check_boxes(
         let domain = parts.domain;
         let kinds = d.kinds;
         let outer = &domain[..box_bytes];
-        let told = rows::check_row(bytes, kinds, d.dimensions, outer, Refusal::OUTSIDE_DOMAIN);
+        let outside = Reason::OutsideDomain;
+        let told = Refusal::from(rows::check_row(bytes, kinds, d.dimensions, outer, outside));
         return told.moved(16);
     }
     if cursor.fanout == 0 {
         return Refusal::none();
     }
-    let told = check_rows(parts, box_bytes, cursor, work, bytes, boxes);
-    told.moved(cursor.done)
+    let fault = Refusal::from(check_rows(parts, box_bytes, cursor, work, bytes, boxes));
+    fault.moved(cursor.done)
 }
 
 // So many boxes of a level, row by row: each row, or what is there of it, inside its parent, which stands at `place` of
@@ -566,11 +526,11 @@ fn check_rows(
     work: &[u8],
     bytes: &[u8],
     boxes: usize,
-) -> Refusal
+) -> Result<(), Refused>
     requires run_of { RunOf parts box_bytes cursor bytes.now boxes }
     requires fanout_nonzero { 0 < cursor.fanout }
-    ensures { (result ≡ each (child_check parts.description cursor.fanout cursor.parents cursor.index
-        bytes.now work.now) 0 boxes) × (result.place ≤ length bytes.now) }
+    ensures { (told result ≡ each (child_check parts.description cursor.fanout cursor.parents cursor.index
+        bytes.now work.now) 0 boxes) × ((told result).place ≤ length bytes.now) }
 {
     let d = parts.description;
     let kinds = d.kinds;
@@ -581,44 +541,34 @@ fn check_rows(
     let mut place = parents + parent * box_bytes;
     let mut row = fanout - (index - parent * fanout);
     let mut i: usize = 0;
+    // of the first row and of the last one only a part may be there
     while i < boxes {
-        let more = answers::lesser(row, boxes - i);
+        let more = row.min(boxes - i);
         let from = i * box_bytes;
         let here = &bytes[from..from + more * box_bytes];
         let outer = part(work, place, box_bytes);
-        let told = rows::check_row(here, kinds, d.dimensions, outer, Refusal::OUTSIDE_PARENT);
-        let there = told.moved(from as u64);
-        if there.number != 0 {
-            return there;
-        }
+        let told = rows::check_row(here, kinds, d.dimensions, outer, Reason::OutsideParent);
+        told.map_err(|e| e.moved(from as u64))?;
         i += more;
         place += box_bytes;
         row = fanout;
     }
-    Refusal::none()
+    Ok(())
 }
 
 // So many bytes from a place on, as far as they exist.
 fn part(bytes: &[u8], from: usize, len: usize) -> &[u8]
     ensures { result.now ≡ take len (drop from bytes.now) }
 {
-    let all = bytes.len();
-    if all <= from {
-        return &bytes[all..all];
-    }
-    if all - from < len {
-        return &bytes[from..all];
-    }
-    let to = from + len;
-    &bytes[from..to]
+    let rest = &bytes[from.min(bytes.len())..];
+    &rest[..len.min(rest.len())]
 }
 
 // Boxes of an inner level go to their place in the work buffer, if it has the room.
 fn store(work: &mut [u8], level: usize, to: usize, bytes: &[u8])
     ensures { Stored work.old level to bytes.now work.new }
 {
-    if level == 0 {
-        return;
+    if 0 < level {
+        order::copy(work, to, bytes);
     }
-    order::copy(work, to, bytes);
 }

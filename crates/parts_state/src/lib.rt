@@ -4,12 +4,11 @@
 
 ghost use Rattle.std.specs.Prelude.{◌≡◌, ◌≤◌, length, take};
 ghost use Rattle.parts_state.specs.Took.{Starts};
-ghost use Rattle.parts_state.specs.Code.State.{begun};
 
-use answers::Refusal;
+use answers::Reason;
 use description::Description;
 
-// What has come, in numbers.
+// What has come. All of it is numbers, since C keeps them between the calls, and a state that C lends may have any.
 #[derive(Clone, Copy)]
 pub struct Cursor {
     // what is refused for good, whatever comes; number 0 while nothing is
@@ -49,67 +48,61 @@ pub struct Parts {
     pub held: [u8; 64],
 }
 
+// Before anything has come.
+const NOTHING: Cursor = Cursor {
+    number: 0,
+    place: 0,
+    which: 0,
+    fanout: 0,
+    levels: 0,
+    level: 0,
+    counted: 0,
+    count: 0,
+    index: 0,
+    own: 0,
+    parents: 0,
+    done: 0,
+    kept: 0,
+    box_number: 0,
+    box_place: 0,
+};
+
 // Takes the footer and the stated length of the body.
 pub fn start(description: Description, file_size: u64, footer: &[u8], stated: u64) -> Parts
     ensures { Starts description file_size footer.now stated result }
 {
+    let blank = Parts {
+        description,
+        tiles: 0,
+        domain: [0u8; 64],
+        stated,
+        cursor: NOTHING,
+        held: [0u8; 64],
+    };
     let checked = footer::check(description, file_size, footer);
-    let mut domain = [0u8; 64];
     if checked.number != 0 {
-        return begun(
-            description,
-            checked.number,
-            checked.place,
-            0,
-            0,
-            domain,
-            stated,
-        );
+        let cursor = Cursor {
+            number: checked.number,
+            place: checked.place,
+            ..NOTHING
+        };
+        return Parts { cursor, ..blank };
     }
     if stated < 8 {
-        return begun(description, Refusal::BYTES, stated, 1, 0, domain, stated);
+        let cursor = Cursor {
+            number: Reason::Bytes.number(),
+            place: stated,
+            which: 1,
+            ..NOTHING
+        };
+        return Parts { cursor, ..blank };
     }
     let from = checked.domain as usize;
     let to = from + description.box_bytes();
-    domain = padded(&footer[from..to]);
-    begun(description, 0, 0, 0, checked.tiles, domain, stated)
-}
-
-fn begun(
-    description: Description,
-    number: u64,
-    place: u64,
-    which: u64,
-    tiles: u64,
-    domain: [u8; 64],
-    stated: u64,
-) -> Parts
-    ensures { result ≡ begun description number place which tiles domain stated }
-{
-    let cursor = Cursor {
-        number: number,
-        place: place,
-        which: which,
-        fanout: 0,
-        levels: 0,
-        level: 0,
-        counted: 0,
-        count: 0,
-        index: 0,
-        own: 0,
-        parents: 0,
-        done: 0,
-        kept: 0,
-        box_number: 0,
-        box_place: 0,
-    };
     Parts {
-        description: description,
-        tiles: tiles,
-        domain: domain,
-        stated: stated,
-        cursor: cursor,
-        held: [0u8; 64],
+        tiles: checked.tiles,
+        domain: padded(&footer[from..to]),
+        ..blank
     }
 }
 
@@ -119,6 +112,6 @@ fn padded(bytes: &[u8]) -> [u8; 64]
     ensures { take (length bytes.now) result ≡ bytes.now }
 {
     let mut all = [0u8; 64];
-    order::copy(&mut all, 0, bytes);
+    all[..bytes.len()].copy_from_slice(bytes);
     all
 }

@@ -1,8 +1,7 @@
 -- How the loop over the marked tiles goes on: what is left of the plan at tile i, with the range that is open there.
 -- The definition goes from right to left and the loop from left to right; `neighbours` turns the one into the other.
 -- Assumes nothing.
-use Rattle.std.proofs.Common.{◌≡◌, ℕ, zero, suc, ◌+◌, ◌-◌, ◌*◌, ◌/◌, ◌%◌, ◌^◌, ◌<◌, ◌≤◌, Bool, true, false, cond, ◌&&◌, ltb, leb, List, [], ◌∷◌, length, get_or, take, set, sym, refl, ap, ◌∙◌, add-zero, add-one, arith, w8, Fits, le-ltb, lt-ltb}
-use mathlib.Core.Bool.{false≢true}
+use Rattle.std.proofs.Common.{◌≡◌, ℕ, zero, suc, ◌+◌, ◌-◌, ◌*◌, ◌/◌, ◌%◌, ◌^◌, ◌<◌, ◌≤◌, Bool, true, false, cond, ltb, leb, Option, Some, None, ◌&&◌, List, [], ◌∷◌, length, get_or, take, set, sym, refl, ap, ◌∙◌, add-zero, add-one, arith, w8, Fits, le-ltb, lt-ltb}
 use native.Mathlib.Nat.{zero-div}
 use native.Mathlib.Decide.{dec_lt}
 use lib.Count.{count_trailing_zeros}
@@ -11,7 +10,6 @@ use Rattle.answers.specs.Laid.{laid}
 use Rattle.answers.specs.Runs.{over, sum}
 use Rattle.answers.proofs.Laid.{sets-whole}
 use Rattle.answers.proofs.Runs.{over_done, over-left}
-use Rattle.description.proofs.Tests.{both}
 use Rattle.order.specs.Little.{little}
 use Rattle.order.proofs.Little.{little-lt}
 use Rattle.lists.specs.Offsets.{offset_of, extent_of}
@@ -21,7 +19,7 @@ use Rattle.plan.specs.declared.Progress.{Progress}
 use Rattle.plan.specs.declared.Written.{Written}
 use Rattle.plan.specs.Plan.{range, solid, before, grouped, words, total, planned, different}
 use Rattle.plan.specs.Code.Marks.{digit, marked, Skipped}
-use Rattle.plan.specs.Code.Progress.{Left, ahead, Closed, Visited, Scanned}
+use Rattle.plan.specs.Code.Progress.{Left, opened, closed, ahead, joined, Closed, Visited, Scanned}
 use Rattle.plan.proofs.Words.{Word, word-says, none_left, found_before, found-marked}
 use Rattle.plan.proofs.Words.{skipped-few, skipped-none, next_word}
 
@@ -94,18 +92,20 @@ module _ {first out : List ℕ} {all rs : List Range} {ranges bytes : ℕ} (r : 
     stored = rw (e, same_size l) (stored_next (dec_lt ranges (length first / 2)));
   }
 
-module _ (p : Progress) (out : List ℕ) where
-  pub close-some : p.begun ≡ true → (out' : List ℕ)
-      → out' ≡ sets out (2 * p.ranges) (words (take (length out / 2 - p.ranges) (range p.start p.end ∷ [])))
-      → (bytes : ℕ) → bytes ≡ (p.bytes + (p.end - p.start)) % 2 ^ 64
-      → Closed p out (record { ranges = p.ranges + 1; bytes = bytes }) out'
-  close-some b out' e bytes sums = record {
-    more = rw b;
-    left = λ first all rs l. rw sums (left-put (range p.start p.end) (rw b at l) out' e);
-  }
+pub close-some : (p : Progress) (r : Range) (out : List ℕ) → p.begun ≡ Some r → (out' : List ℕ)
+    → out' ≡ sets out (2 * p.written.ranges) (words (take (length out / 2 - p.written.ranges) (r ∷ [])))
+    → (bytes : ℕ) → bytes ≡ (p.written.bytes + (r.end - r.start)) % 2 ^ 64
+    → Closed p out (record { ranges = p.written.ranges + 1; bytes = bytes }) out'
+close-some p r out b out' e bytes sums = record {
+  more = rw b;
+  left = λ first all rs l. rw sums (left-put r (rw b at l) out' e);
+}
 
-  pub close-none : p.begun ≡ false → Closed p out (record { ranges = p.ranges; bytes = p.bytes }) out
-  close-none b = record { more = rw b (omega arith); left = λ first all rs l. rw b at l }
+pub close-none : (p : Progress) (out : List ℕ) → p.begun ≡ None → Closed p out p.written out
+close-none p out b = record { more = rw b (omega arith); left = λ first all rs l. rw b at l }
+
+some-is : {r s : Range} → Some r ≡ Some s → r ≡ s
+some-is e = grind arith
 
 -- ---- the rule for two neighbours, as the loop meets them: the second belongs to the first one's range, or opens the next
 neighbours : (g : ℕ) (r t : Range) (rs : List Range) → before g r (before g t rs)
@@ -120,48 +120,55 @@ neighbours g r t (s ∷ ss) = go (leb (s.start - t.end) g)
     go true = refl
     go false = refl
 
-module _ (g : ℕ) (r t : Range) (rs : List Range) where
-  near : (begun : Bool) → (begun && leb (t.start - r.end) g) ≡ true
-      → cond begun (before g r (before g t rs)) (before g t rs) ≡ before g (range r.start t.end) rs
-  near true e = neighbours g r t rs ∙ rw e
-  near false e = absurd (false≢true e)
+near : (g : ℕ) (o : Option Range) (r t : Range) (rs : List Range) → joined g o t ≡ Some r
+    → ahead g o (before g t rs) ≡ before g r rs
+near g None r t rs e = grind arith
+near g (Some s) r t rs e = go (leb (t.start - s.end) g) refl e
+  where
+    go : (b : Bool) → leb (t.start - s.end) g ≡ b → cond b (Some (range s.start t.end)) None ≡ Some r
+        → before g s (before g t rs) ≡ before g r rs
+    go true b e = neighbours g s t rs ∙ rw b (ap (λ x. before g x rs) (some-is e))
+    go false b e = grind arith
 
-  far : (begun : Bool) → (begun && leb (t.start - r.end) g) ≡ false
-      → cond begun (before g r (before g t rs)) (before g t rs) ≡ cond begun (r ∷ before g t rs) (before g t rs)
-  far true e = neighbours g r t rs ∙ rw e
-  far false e = refl
+far : (g : ℕ) (o : Option Range) (t : Range) (rs : List Range) → joined g o t ≡ None
+    → ahead g o (before g t rs) ≡ closed o (before g t rs)
+far g None t rs e = refl
+far g (Some s) t rs e = go (leb (t.start - s.end) g) refl e
+  where
+    go : (b : Bool) → leb (t.start - s.end) g ≡ b → cond {A = Option Range} b (Some (range s.start t.end)) None ≡ None
+        → before g s (before g t rs) ≡ s ∷ before g t rs
+    go true b e = grind arith
+    go false b e = neighbours g s t rs ∙ rw b
+
+ahead-none : (g : ℕ) (o : Option Range) → ahead g o [] ≡ closed o []
+unfolding before
+ahead-none g None = refl
+ahead-none g (Some r) = refl
 
 -- ---- tile t is met
-module _ (g : ℕ) (t : Range) (p : Progress) (out : List ℕ) (few : p.ranges + cond p.begun 1 0 ≤ p.tiles) where
-  pub visit-none : t.end ≤ t.start → Visited g t p out
-      (record { tiles = p.tiles + 1; ranges = p.ranges; bytes = p.bytes; begun = p.begun; start = p.start; end = p.end })
-      out
+module _ (g : ℕ) (t : Range) (p : Progress) (out : List ℕ) (few : p.written.ranges + opened p.begun ≤ p.tiles) where
+  pub visit-none : t.end ≤ t.start → Visited g t p out (record { tiles = p.tiles + 1; written = p.written; begun = p.begun }) out
   visit-none h = record {
     tiles = refl;
     few = omega (arith, few);
     left = λ first all rs l. rw (le-ltb t.start t.end h) at l;
   }
 
-  pub visit-near : t.start < t.end → (p.begun && leb (t.start - p.end) g) ≡ true → Visited g t p out
-      (record { tiles = p.tiles + 1; ranges = p.ranges; bytes = p.bytes; begun = true; start = p.start; end = t.end })
-      out
-  visit-near h e = record {
+  pub visit-near : t.start < t.end → (r : Range) → joined g p.begun t ≡ Some r
+      → Visited g t p out (record { tiles = p.tiles + 1; written = p.written; begun = Some r }) out
+  visit-near h r e = record {
     tiles = refl;
-    few = omega (arith, rw (both p.begun _ e).0 at few);
-    left = λ first all rs l.
-        rw (near g (range p.start p.end) t rs p.begun e) at (rw (lt-ltb t.start t.end h) at l);
+    few = omega (arith, few);
+    left = λ first all rs l. rw (near g p.begun r t rs e) at (rw (lt-ltb t.start t.end h) at l);
   }
 
-  pub visit-far : t.start < t.end → (p.begun && leb (t.start - p.end) g) ≡ false
-      → (w : Written) (out' : List ℕ) → Closed p out w out' → Visited g t p out
-      (record { tiles = p.tiles + 1; ranges = w.ranges; bytes = w.bytes; begun = true; start = t.start; end = t.end })
-      out'
+  pub visit-far : t.start < t.end → joined g p.begun t ≡ None → (w : Written) (out' : List ℕ) → Closed p out w out'
+      → Visited g t p out (record { tiles = p.tiles + 1; written = w; begun = Some t }) out'
   visit-far h e w out' c = record {
     tiles = refl;
     few = omega (arith, few, c.more);
     left = λ first all rs l.
-        c.left first all (before g t rs)
-        (rw (far g (range p.start p.end) t rs p.begun e) at (rw (lt-ltb t.start t.end h) at l));
+        c.left first all (before g t rs) (rw (far g p.begun t rs e) at (rw (lt-ltb t.start t.end h) at l));
   }
 
 -- ---- what is left of the tiles at i
@@ -206,12 +213,15 @@ few-different named k (suc m) = go (named k) (few-different named (suc k) m)
 
 -- ---- the loop at tile i
 pub record Reached (g n : ℕ) (named : ℕ → Bool) (tile : ℕ → Range) (first out : List ℕ) (p : Progress) (i : ℕ) : Type 0 where
-  pub few : p.ranges + cond p.begun 1 0 ≤ p.tiles
+  pub few : p.written.ranges + opened p.begun ≤ p.tiles
   pub counted : p.tiles + sum (λ i. cond (named i) 1 0) i (n - i) ≡ different n named
-  pub left : Left first (planned g named tile n) out p.ranges p.bytes (ahead g p (grouped g (solid named tile) tile i (n - i)))
+  pub left : Left first (planned g named tile n) out p.written.ranges p.written.bytes (ahead g p.begun (grouped g (solid named tile) tile i (n - i)))
+
+abbrev nothing : Progress
+nothing = record { tiles = 0; written = record { ranges = 0; bytes = 0 }; begun = None }
 
 pub reached-start : (g n : ℕ) (named : ℕ → Bool) (tile : ℕ → Range) (first : List ℕ)
-    → Reached g n named tile first first (record { tiles = 0; ranges = 0; bytes = 0; begun = false; start = 0; end = 0 }) 0
+    → Reached g n named tile first first nothing 0
 reached-start g n named tile first =
     let z : n - 0 ≡ n = omega arith in
     let room : length first / 2 - 0 ≡ length first / 2 = omega arith in
@@ -274,11 +284,10 @@ module _ {g n : ℕ} {named : ℕ → Bool} {tile : ℕ → Range} {first out : 
 
   -- no tile is left
   pub done : n ≤ i → Scanned g named tile n first p out
-  unfolding before
   done h = record {
     tiles = omega (arith, r.counted, over_done ◌+◌ 0 (λ i. cond (named i) 1 0) i (n - i) (omega arith));
     few = omega (arith, r.few, tiles-within);
-    left = rw (left-none g (solid named tile) tile i n h) at r.left;
+    left = rw (left-none g (solid named tile) tile i n h, ahead-none g p.begun) at r.left;
   }
 
 -- ---- the loop with the marks from tile i on in `word`, and the next eight bytes at `at`
@@ -291,7 +300,7 @@ pub record Turn (g n : ℕ) (marks : List ℕ) (tile : ℕ → Range) (first out
   pub reached : Reached g n (marked marks) tile first out p i
 
 pub turn-start : (g n : ℕ) (marks : List ℕ) (tile : ℕ → Range) (first : List ℕ) (bytes : ℕ) → bytes ≡ (n + 7) / 8
-    → Turn g n marks tile first first (record { tiles = 0; ranges = 0; bytes = 0; begun = false; start = 0; end = 0 }) bytes 0 0 0
+    → Turn g n marks tile first first nothing bytes 0 0 0
 turn-start g n marks tile first bytes e = record {
   enough = e;
   aligned = refl;

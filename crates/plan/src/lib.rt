@@ -1,17 +1,18 @@
 // The read plan: which bytes of a data file are read for a run of tiles.
 #![tactic(auto)]
 
-ghost use Rattle.std.specs.Prelude.{◌≡◌, ◌+◌, ◌-◌, ◌*◌, ◌/◌, ◌^◌, ◌<◌, ◌≤◌, false, ◌&&◌, [], ◌∷◌, length, take, if◌then◌else◌, nat_le, nat_lt};
+ghost use Rattle.std.specs.Prelude.{◌≡◌, ◌+◌, ◌-◌, ◌*◌, ◌/◌, ◌^◌, ◌<◌, ◌≤◌, false, [], ◌∷◌, length, take, nat_lt};
 ghost use Rattle.std.proofs.lemmas.List.Edits.{sets};
-ghost use Rattle.plan.specs.Plan.{range, how_many, words, tile_bytes, plan_after, output_after};
+ghost use Rattle.answers.specs.Told.{told, number_of};
+ghost use Rattle.plan.specs.Plan.{how_many, words, tile_bytes, plan_refusal, plan_after, output_after};
 ghost use Rattle.plan.specs.Plan.{plan_answer, plan_output, var_plan_answer, var_plan_output, plan_at, output_at};
 ghost use Rattle.plan.specs.Code.Marks.{marking, marked, MarksRun, Cleared, Unmarked, Skipped};
-ghost use Rattle.plan.specs.Code.Progress.{Closed, Visited, Scanned};
+ghost use Rattle.plan.specs.Code.Progress.{opened, joined, Closed, Visited, Scanned};
 
-use answers::Refusal;
+use answers::{Reason, Refused};
 
-// Number 0: not refused. How many ranges there are, how many different tiles the run names, how many of its entries
-// name none, and how many bytes the ranges have; all 0 in a refusal.
+// As C has it. Number 0: not refused. How many ranges there are, how many different tiles the run names, how many of its
+// entries name none, and how many bytes the ranges have; all 0 in a refusal.
 #[derive(Clone, Copy)]
 pub struct ReadPlan {
     pub number: u64,
@@ -38,9 +39,8 @@ pub fn read_plan(
     ensures buffer { out.new ≡ plan_output tiles size body.now gap run.now
         (length work.old) out.old }
 {
-    let list = entries::open_offsets(body, tiles, size);
-    let refusal = Refusal::new(list.number, list.place);
-    plan_after(refusal, body, tiles, size, gap, run, work, out)
+    let list = entries::check_offsets(body, tiles, size);
+    plan_after(list, body, tiles, size, gap, run, work, out)
 }
 
 // The same of var offsets.
@@ -58,12 +58,12 @@ pub fn var_read_plan(
     ensures buffer { out.new ≡ var_plan_output tiles size body.now gap run.now
         (length work.old) out.old }
 {
-    let list = entries::open_var_offsets(body, tiles, size);
-    let refusal = Refusal::new(list.number, list.place);
-    plan_after(refusal, body, tiles, size, gap, run, work, out)
+    let list = entries::check_var_offsets(body, tiles, size);
+    plan_after(list, body, tiles, size, gap, run, work, out)
 }
 
 // The same with no check of the list, for one that is known to be accepted, of either kind.
+#[tactic(auto, unfolding(answers::specs::Told::told))]
 pub fn read_plan_at(
     body: &[u8],
     tiles: u64,
@@ -78,13 +78,14 @@ pub fn read_plan_at(
     ensures buffer { out.new ≡ output_at tiles size body.now gap run.now
         (length work.old) out.old }
 {
-    plan_after(Refusal::none(), body, tiles, size, gap, run, work, out)
+    plan_after(Ok(()), body, tiles, size, gap, run, work, out)
 }
 
 // The plan after what the list is refused with, if it is. The tiles of the run are marked in the work buffer, so that
-// they come rising and each once.
+// they come rising and each once. The list, the number of tiles and the size stay apart: that a slice holds bytes is told
+// of a parameter, and not of a field.
 fn plan_after(
-    list: Refusal,
+    list: Result<(), Refused>,
     body: &[u8],
     tiles: u64,
     size: u64,
@@ -93,34 +94,42 @@ fn plan_after(
     work: &mut [u8],
     out: &mut [u64],
 ) -> ReadPlan
-    ensures answer { result ≡ plan_after list tiles size body.now gap run.now
+    ensures answer { result ≡ plan_after (told list) tiles size body.now gap run.now
         (length work.old) }
-    ensures buffer { out.new ≡ output_after list tiles size body.now gap run.now
+    ensures buffer { out.new ≡ output_after (told list) tiles size body.now gap run.now
         (length work.old) out.old }
 {
-    let room = work.len() as u64;
-    let refusal = list.or(Refusal::when(room < eighth(tiles), Refusal::WORK, 0));
-    if refusal.number != 0 {
-        return refused(refusal);
-    }
-    clear(work, eighth(tiles) as usize);
-    let inside = mark(run, tiles, work);
-    let p = scan(body, tiles, size, gap, work, out);
-    let written = close(out, p);
-    ReadPlan {
-        number: refusal.number,
-        place: refusal.place,
-        ranges: written.ranges,
-        tiles: p.tiles,
-        outside: run.len() as u64 - inside,
-        bytes: written.bytes,
+    match check(list, tiles, work.len() as u64) {
+        Ok(()) => {
+            clear(work, eighth(tiles) as usize);
+            let inside = mark(run, tiles, work);
+            let p = scan(body, tiles, size, gap, work, out);
+            let written = close(out, p);
+            ReadPlan {
+                number: 0,
+                place: 0,
+                ranges: written.ranges,
+                tiles: p.tiles,
+                outside: run.len() as u64 - inside,
+                bytes: written.bytes,
+            }
+        }
+        Err(e) => refused(e),
     }
 }
 
-fn refused(refusal: Refusal) -> ReadPlan
+// After what the list is refused with, a work buffer that is too short.
+fn check(list: Result<(), Refused>, tiles: u64, room: u64) -> Result<(), Refused>
+    ensures { told result ≡ plan_refusal (told list) tiles room }
+{
+    list?;
+    Reason::Work.when(room < eighth(tiles), 0)
+}
+
+fn refused(e: Refused) -> ReadPlan
     ensures { result ≡ record {
-      number = refusal.number;
-      place = refusal.place;
+      number = number_of e.reason;
+      place = e.place;
       ranges = 0;
       tiles = 0;
       outside = 0;
@@ -128,8 +137,8 @@ fn refused(refusal: Refusal) -> ReadPlan
     } }
 {
     ReadPlan {
-        number: refusal.number,
-        place: refusal.place,
+        number: e.reason.number(),
+        place: e.place,
         ranges: 0,
         tiles: 0,
         outside: 0,
@@ -141,16 +150,14 @@ fn refused(refusal: Refusal) -> ReadPlan
 fn eighth(n: u64) -> u64
     ensures { result ≡ (n + 7) / 8 }
 {
-    n / 8 + (n % 8 + 7) / 8
+    n.div_ceil(8)
 }
 
 fn clear(marks: &mut [u8], bytes: usize)
     requires { bytes ≤ length marks.old }
     ensures { Cleared bytes marks.new }
 {
-    for i in 0..bytes {
-        marks[i] = 0;
-    }
+    marks[..bytes].fill(0);
 }
 
 // Marks each tile below n that the run names, and answers how many of its entries do.
@@ -160,14 +167,12 @@ fn mark(run: &[u32], n: u64, marks: &mut [u8]) -> u64
     ensures marks { MarksRun n run.now marks.old marks.new }
 {
     let mut inside = 0;
-    let mut k = 0;
-    while k < run.len() {
-        let tile = run[k] as u64;
+    for entry in run {
+        let tile = *entry as u64;
         if tile < n {
             set_mark(marks, tile);
             inside += 1;
         }
-        k += 1;
     }
     inside
 }
@@ -176,8 +181,7 @@ fn set_mark(marks: &mut [u8], i: u64)
     requires { i < 8 * length marks.old }
     ensures { marks.new ≡ marking marks.old i }
 {
-    let at = (i / 8) as usize;
-    marks[at] = marks[at] | 1u8 << (i % 8);
+    marks[(i / 8) as usize] |= 1u8 << (i % 8);
 }
 
 // Bytes from a start to before an end.
@@ -187,15 +191,13 @@ struct Range {
     end: u64,
 }
 
-// How many tiles were met and how many ranges and bytes written; the range that is open, if one is begun.
-#[derive(Clone, Copy)]
-struct Progress {
-    tiles: u64,
-    ranges: u64,
-    bytes: u64,
-    begun: bool,
-    start: u64,
-    end: u64,
+impl Range {
+    // None where the end is not above the start.
+    fn length(self) -> u64
+        ensures { result ≡ self.end - self.start }
+    {
+        self.end.saturating_sub(self.start)
+    }
 }
 
 // How many ranges are written, and how many bytes they have.
@@ -203,6 +205,14 @@ struct Progress {
 struct Written {
     ranges: u64,
     bytes: u64,
+}
+
+// How many tiles were met, what is written, and the range that is begun, if one is.
+#[derive(Clone, Copy)]
+struct Progress {
+    tiles: u64,
+    written: Written,
+    begun: Option<Range>,
 }
 
 // Goes through the marked tiles, rising, and leaves the last range open. The bits of `word` are the marks from tile i
@@ -226,7 +236,7 @@ fn scan(body: &[u8], tiles: u64, size: u64, gap: u64, marks: &[u8], out: &mut [u
             i = 8 * at as u64;
             at += 8;
         } else {
-            let skipped = u64::trailing_zeros(word);
+            let skipped = word.trailing_zeros();
             i += skipped as u64;
             if tiles <= i {
                 break p;
@@ -243,12 +253,9 @@ fn skip(marks: &[u8], bytes: usize, at: usize) -> usize
     requires { (at ≤ bytes + 7) × (bytes + 64 < 2 ^ 64) }
     ensures { Skipped marks.now bytes at result }
 {
-    let end = answers::lesser(bytes, marks.len());
+    let end = bytes.min(marks.len());
     let mut k = at;
-    while k + 32 <= end {
-        if holds_mark(marks, k) {
-            return k;
-        }
+    while k + 32 <= end && !holds_mark(marks, k) {
         k += 32;
     }
     k
@@ -259,28 +266,19 @@ fn holds_mark(marks: &[u8], at: usize) -> bool
     requires { at + 32 < 2 ^ 64 }
     ensures { result ≡ false → Unmarked marks.now at (at + 32) }
 {
-    if order::u64_at(marks, at) != 0 {
-        return true;
-    }
-    if order::u64_at(marks, at + 8) != 0 {
-        return true;
-    }
-    if order::u64_at(marks, at + 16) != 0 {
-        return true;
-    }
-    if order::u64_at(marks, at + 24) != 0 {
-        return true;
-    }
-    false
+    order::u64_at(marks, at) != 0
+        || order::u64_at(marks, at + 8) != 0
+        || order::u64_at(marks, at + 16) != 0
+        || order::u64_at(marks, at + 24) != 0
 }
 
 const NOTHING: Progress = Progress {
     tiles: 0,
-    ranges: 0,
-    bytes: 0,
-    begun: false,
-    start: 0,
-    end: 0,
+    written: Written {
+        ranges: 0,
+        bytes: 0,
+    },
+    begun: None,
 };
 
 fn tile(body: &[u8], tiles: u64, size: u64, i: u64) -> Range
@@ -294,90 +292,66 @@ fn tile(body: &[u8], tiles: u64, size: u64, i: u64) -> Range
 
 // One more tile: without bytes it takes no part; it belongs to the open range, or that is written and another begun.
 fn visit(out: &mut [u64], p: Progress, t: Range, gap: u64) -> Progress
-    requires { (p.tiles + 1 < 2 ^ 64) × (p.ranges + (if p.begun then 1 else 0) ≤ p.tiles) }
+    requires { (p.tiles + 1 < 2 ^ 64) × (p.written.ranges + opened p.begun ≤ p.tiles) }
     ensures { Visited gap t p out.old result out.new }
 {
     let tiles = p.tiles + 1;
-    let from = t.start;
-    let to = t.end;
-    if to <= from {
-        return Progress {
-            tiles,
-            ranges: p.ranges,
-            bytes: p.bytes,
-            begun: p.begun,
-            start: p.start,
-            end: p.end,
-        };
+    if t.end <= t.start {
+        return Progress { tiles, ..p };
     }
-    if joins(p.begun, p.end, from, gap) {
-        return Progress {
+    match joined(p.begun, t, gap) {
+        Some(range) => Progress {
             tiles,
-            ranges: p.ranges,
-            bytes: p.bytes,
-            begun: true,
-            start: p.start,
-            end: to,
-        };
-    }
-    let written = close(out, p);
-    Progress {
-        tiles,
-        ranges: written.ranges,
-        bytes: written.bytes,
-        begun: true,
-        start: from,
-        end: to,
+            written: p.written,
+            begun: Some(range),
+        },
+        None => Progress {
+            tiles,
+            written: close(out, p),
+            begun: Some(t),
+        },
     }
 }
 
-fn joins(begun: bool, end: u64, start: u64, gap: u64) -> bool
-    ensures { result ≡ (begun && nat_le (start - end) gap) }
+// The open range with one more tile, where at most so many bytes lie between them.
+fn joined(begun: Option<Range>, t: Range, gap: u64) -> Option<Range>
+    ensures { result ≡ joined gap begun t }
 {
-    if begun {
-        less(start, end) <= gap
+    let Range { start, end } = begun?;
+    if t.start.saturating_sub(end) <= gap {
+        Some(Range { start, end: t.end })
     } else {
-        false
+        None
     }
 }
 
 // Writes the open range, if there is one. The bytes of a list that isn't accepted may add up past 64 bits.
 fn close(out: &mut [u64], p: Progress) -> Written
-    requires { p.ranges + (if p.begun then 1 else 0) < 2 ^ 64 }
+    requires { p.written.ranges + opened p.begun < 2 ^ 64 }
     ensures { Closed p out.old result out.new }
 {
-    if p.begun {
-        put(out, p.ranges, p.start, p.end);
-        let length = less(p.end, p.start);
-        Written {
-            ranges: p.ranges + 1,
-            bytes: std::num::wrapping_add_u64(p.bytes, length),
+    let Written { ranges, bytes } = p.written;
+    match p.begun {
+        Some(range) => {
+            put(out, ranges, range);
+            Written {
+                ranges: ranges + 1,
+                bytes: bytes.wrapping_add(range.length()),
+            }
         }
-    } else {
-        Written {
-            ranges: p.ranges,
-            bytes: p.bytes,
-        }
+        None => p.written,
     }
 }
 
 // A range goes to its two places, if the buffer has both.
-fn put(out: &mut [u64], ranges: u64, start: u64, end: u64)
+fn put(out: &mut [u64], ranges: u64, range: Range)
     ensures { out.new ≡ sets out.old (2 * ranges)
-        (words (take (length out.old / 2 - ranges) (range start end ∷ []))) }
+        (words (take (length out.old / 2 - ranges) (range ∷ []))) }
 {
     let k = ranges as usize;
-    let room = out.len() / 2;
-    if k < room {
+    if k < out.len() / 2 {
         let at = 2 * k;
-        out[at] = start;
-        out[at + 1] = less(end, start);
+        out[at] = range.start;
+        out[at + 1] = range.length();
     }
-}
-
-// a - b, and 0 where b is above a.
-fn less(a: u64, b: u64) -> u64
-    ensures { result ≡ a - b }
-{
-    if b <= a { a - b } else { 0 }
 }

@@ -15,14 +15,16 @@ use Rattle.description.specs.declared.Description.{Description}
 use Rattle.description.specs.Description.{side_start, sides_of, bytes_of_box}
 use Rattle.description.proofs.Limits.{Kept, kept}
 use Rattle.boxes.specs.declared.Window.{Window}
-use Rattle.boxes.specs.Boxes.{box_meets, box_read}
+use Rattle.boxes.specs.Boxes.{range_in, box_meets, box_read}
 use Rattle.boxes.specs.Windows.{window_refusal}
-use Rattle.windows.specs.Code.Carried.{ends_of_window}
+use Rattle.windows.specs.Code.Carried.{Fitting}
+use Rattle.ranges.specs.Ranges.{kind_of}
 use Rattle.boxes.proofs.ReadTo.{box-read-miss, box-read-all}
 use Rattle.query.specs.declared.BoxTest.{BoxTest}
 use Rattle.query.specs.declared.Tested.{Tested}
 use Rattle.query.specs.BoxTest.{box_test_refusal, box_test_refusal_by, box_test_answer, box_test_answer_by, ReadUp}
-use Rattle.query.specs.Code.Walking.{meets_carried, read_carried, Carries}
+use Rattle.query.specs.declared.Asked.{Asked}
+use Rattle.query.specs.Code.Walking.{asked_of, meets_asked, read_asked, Carried}
 use Rattle.query.proofs.Window.{Fit, carries, meets-same, read_same}
 
 abbrev pub refused_test : Refusal → BoxTest
@@ -98,18 +100,20 @@ module _ (d : Description) (bytes : List ℕ) (w : Window) where
   refusing e some = promised (rw e (refused-answer (rw e at some)))
 
   -- the code's test, of the window as it is carried
-  module _ (clear : (box_test_refusal d bytes w).number ≡ 0) (fit : Fit d w (passed-all clear).windowed) {m : ℕ} {ends : List ℕ}
-      (sides : m ≡ sides_of d.dimensions) (carried : ends ≡ ends_of_window w.sides (sides_of d.dimensions)) where
-    pub asked : (side_start d.kinds m ≤ length bytes) × Carries d.kinds ends m
+  module _ (clear : (box_test_refusal d bytes w).number ≡ 0) {a : Asked} (is : a ≡ asked_of d w)
+      (fitting : Fitting (λ i. kind_of (range_in w.sides i)) a.ends a.dimensions) where
+    fit : Fit d w (passed-all clear).windowed
+    fit = rw is at fitting
+
+    pub asked : (side_start a.kinds a.dimensions ≤ length bytes) × Carried a
     unfolding bytes_of_box
     asked =
         let p = passed-all clear in
-        rw (sides, carried) (omega (arith, p.whole), carries d w p.windowed fit)
+        rw is (omega (arith, p.whole), carries d w p.windowed fit)
 
-    pub answering : {t : Tested} → (t.meets ≡ meets_carried d.kinds ends m bytes) × (t.read ≡ read_carried d.kinds ends m bytes)
-        → Promised (told_test t)
+    pub answering : {t : Tested} → (t.meets ≡ meets_asked a bytes) × (t.read ≡ read_asked a bytes) → Promised (told_test t)
     answering told =
         let passed = (passed-all clear).windowed in
-        let met = rw (sides, carried) at told.0 ∙ meets-same d w passed fit bytes in
-        let read = rw (sides, carried) at told.1 ∙ read_same d w passed fit bytes in
+        let met = rw is at told.0 ∙ meets-same d w passed fit bytes in
+        let read = rw is at told.1 ∙ read_same d w passed fit bytes in
         promised ((λ i. told_test (record { meets = met i; read = read i })) ∙ sym (clear-answer clear))

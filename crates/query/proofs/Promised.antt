@@ -20,7 +20,9 @@ use Rattle.description.specs.Description.{sides_of, bytes_of_box}
 use Rattle.description.proofs.Limits.{Kept, within, kept}
 use Rattle.boxes.specs.declared.Window.{Window}
 use Rattle.boxes.specs.Windows.{window_refusal}
-use Rattle.windows.specs.Code.Carried.{ends_of_window}
+use Rattle.windows.specs.Code.Carried.{ends_of_window, Fitting}
+use Rattle.ranges.specs.Ranges.{kind_of}
+use Rattle.boxes.specs.Boxes.{range_in}
 use Rattle.boxes.proofs.Boxes.{box-meets-around}
 use Rattle.tree.specs.Shape.{boxes, height, levels, body_bytes, shape_of}
 use Rattle.tree.specs.Walk.{Contained}
@@ -36,7 +38,8 @@ use Rattle.rtree.proofs.Nested.{nested}
 use Rattle.query.specs.declared.Answer.{Answer}
 use Rattle.query.specs.declared.Walk.{Walk}
 use Rattle.query.specs.Query.{asked_refusal, asked_refusal_by, query_refusal, query_refusal_by, meeting, looked_at, found_at, refused_answer, query_answer, query_answer_by, query_buffer, query_buffer_by, flat_count_of, Lists, Bounded, Promises}
-use Rattle.query.specs.Code.Walking.{Ground, ground, tiles_in, seen, state, children_walked, Grounded, ChildRow}
+use Rattle.query.specs.declared.Asked.{Asked}
+use Rattle.query.specs.Code.Walking.{Ground, ground, tiles_in, seen, state, children_walked, root_walked, Grounded, ChildRow, RootRow, asked_of, shaped_ground}
 use Rattle.query.proofs.Root.{comes-to, root-row}
 use Rattle.query.proofs.Window.{Fit, carries, meets-same}
 
@@ -101,11 +104,11 @@ module _ (d : Description) (n : ℕ) (body : List ℕ) (w : Window) where
 
   module _ (p : Cleared d n body w) where
     -- the root's level is there
-    pub some_level : {r : Shaped} → IsShaped d n body r → 1 ≤ r.shape.levels
+    some_level : {r : Shaped} → IsShaped d n body r → 1 ≤ r.shape.levels
     unfolding levels
     some_level s = rw (s.shape, shape-levels p.sizes (bytes_of_box d) p.described.most_bytes) (omega arith)
 
-    pub root-distance : {r : Shaped} → IsShaped d n body r → r.shape.levels - 1 ≡ height (fanout_of body) n
+    root-distance : {r : Shaped} → IsShaped d n body r → r.shape.levels - 1 ≡ height (fanout_of body) n
     unfolding levels
     root-distance s = rw (s.shape, shape-levels p.sizes (bytes_of_box d) p.described.most_bytes) (omega arith)
 
@@ -136,10 +139,10 @@ module _ (d : Description) (n : ℕ) (body : List ℕ) (w : Window) where
         root : depth ≡ height (fanout_of body) (tiles_in (ground_of d n body w))
         root = rw tiles-in deep
 
-        pub walk-row-asked : length body < 2 ^ 64 → ChildRow g depth 0 (0, 0, out)
+        walk-row-asked : length body < 2 ^ 64 → ChildRow g depth 0 (0, 0, out)
         walk-row-asked fits = rw same (root-row grounded out root fits)
 
-        pub walk-comes-to : children_walked g depth 0 (0, 0, out)
+        walk-comes-to : children_walked g depth 0 (0, 0, out)
             ≡ (looked_at d n body w, length (found_at d n body w), laid (found_at d n body w) out)
         walk-comes-to = rw same (comes-to grounded out root ∙ rw (tiles-in, seen-meeting))
 
@@ -230,7 +233,7 @@ module _ (d : Description) (n : ℕ) (body : List ℕ) (w : Window) where
       → (out : List ℕ) → Promised d n body w a out out
   refusing e some told out = promised (told ∙ refused-answer e some) out (refused-buffer e some out)
 
-  pub answering : (clear : (query_refusal d n body w).number ≡ 0) (out : List ℕ) {walk : Walk} {left : List ℕ}
+  answering : (clear : (query_refusal d n body w).number ≡ 0) (out : List ℕ) {walk : Walk} {left : List ℕ}
       → state walk left ≡ (looked_at d n body w, length (found_at d n body w), laid (found_at d n body w) out)
       → Promised d n body w (record { number = 0; place = 0; found = walk.found; looked = walk.count }) out left
   answering clear out {walk} {left} all =
@@ -238,3 +241,27 @@ module _ (d : Description) (n : ℕ) (body : List ℕ) (w : Window) where
       (rw (ap (λ (s : State). s.1) all, ap (λ (s : State). s.0) all) (sym (clear-answer clear)))
       out
       (ap (λ (s : State). s.2) all ∙ sym (clear-buffer clear out))
+
+  -- as the code goes about it: its checks passed, and it carries the window
+  module _ (asked : (asked_refusal d n w).number ≡ 0) {s : Shaped} (shaped : IsShaped d n body s) (whole : s.number ≡ 0)
+      {a : Asked} (is : a ≡ asked_of d w) (fitting : Fitting (λ i. kind_of (range_in w.sides i)) a.ends a.dimensions) where
+    all-clear : (query_refusal d n body w).number ≡ 0
+    all-clear = ap (λ (r : Refusal). r.number) (sym (shape-refusal asked shaped)) ∙ whole
+
+    cleared : Cleared d n body w
+    cleared = passed-all all-clear
+
+    fit-here : Fit d w cleared.windowed
+    fit-here = rw is at fitting
+
+    same-ground : shaped_ground d s body a ≡ ground_of d n body w
+    same-ground = rw (shaped.shape, shaped.fanout, is)
+
+    pub row : (out : List ℕ) → length body < 2 ^ 64 → RootRow (shaped_ground d s body a) s.shape.levels out
+    row out fits =
+        (some_level cleared shaped, walk-row-asked cleared fit-here same-ground (root-distance cleared shaped) out fits)
+
+    pub walking : (out : List ℕ) {walk : Walk} {left : List ℕ} → state walk left ≡ root_walked (shaped_ground d s body a) s.shape.levels out
+        → Promised d n body w (record { number = 0; place = 0; found = walk.found; looked = walk.count }) out left
+    walking out e =
+        answering all-clear out (e ∙ walk-comes-to cleared fit-here same-ground (root-distance cleared shaped) out)

@@ -5,21 +5,24 @@ ghost use Rattle.std.specs.Prelude.{◌≡◌, false, ◌||◌, ◌+◌, ◌*◌
 ghost use Rattle.std.specs.Float.{binary32, binary64};
 ghost use Rattle.std.specs.Float.Ieee.{nan_bits};
 ghost use Rattle.answers.specs.Refusals.{refusal};
+ghost use Rattle.answers.specs.Told.{told};
 ghost use Rattle.order.specs.Little.{first_of_two, second_of_two};
 ghost use Rattle.description.specs.Kinds.{range_bytes, is_nan};
 ghost use Rattle.description.specs.Description.{side_start};
-ghost use Rattle.ranges.specs.Ranges.{ends_at, fitted, range_of, range_at, has_nan, meets};
-ghost use Rattle.windows.specs.Code.Carried.{carried_side};
+ghost use Rattle.ranges.specs.Ranges.{kind_of, ends_at, fitted, range_of, range_at, has_nan, meets};
+ghost use Rattle.boxes.specs.Boxes.{range_in};
+ghost use Rattle.windows.specs.Code.Carried.{carried_side, Fitting};
 ghost use Rattle.rtree.specs.Opening.{Accepted};
 ghost use Rattle.query.specs.Query.{asked_refusal, refused_answer, query_answer, query_buffer, flat_count_of};
 ghost use Rattle.query.specs.Query.{Lists, Bounded};
 ghost use Rattle.query.specs.BoxTest.{box_test_refusal, box_test_answer, ReadUp};
-ghost use Rattle.query.specs.Code.Walking.{planned, shaped_ground, state, meets_carried, read_carried, Carries};
+ghost use Rattle.query.specs.Code.Walking.{asked_of, planned, shaped_ground, state, meets_asked, read_asked, Carried};
 ghost use Rattle.query.specs.Code.Walking.{visited, children_walked, root_walked, Box, ChildRow, RootRow};
 
-use answers::Refusal;
+use answers::{Reason, Refused};
 use boxes::Window;
 use description::{Description, Dimension, Kind};
+use floats::Float;
 use ranges::Range;
 use rtree::Shaped;
 
@@ -58,6 +61,40 @@ struct Looked {
     count: usize,
 }
 
+// A window that passed its check, as the tests of boxes go by it: its dimensions, their kinds and the patterns of its
+// ends.
+#[derive(Clone, Copy)]
+struct Asked {
+    dimensions: usize,
+    kinds: [Dimension; 4],
+    ends: [u64; 8],
+}
+
+// What a walk goes by, lent from row to row by one reference: the window, the bytes of a box, the fanout and the table of
+// the levels.
+#[derive(Clone, Copy)]
+struct Plan {
+    asked: Asked,
+    box_bytes: usize,
+    fanout: usize,
+    table: [usize; 50],
+}
+
+impl Asked {
+    fn of(description: Description, window: Window) -> Asked
+        ensures is { result ≡ asked_of description window }
+        ensures fitting { Fitting (λ i. kind_of (range_in window.sides i)) result.ends result.dimensions }
+    {
+        let kinds = description.kinds;
+        let ends = windows::window_ends(window.sides, description.dimensions);
+        Asked {
+            dimensions: description::sides_of(description.dimensions),
+            kinds,
+            ends,
+        }
+    }
+}
+
 // The buffer's first places hold the first found tiles, as many as fit.
 pub fn query(
     description: Description,
@@ -74,17 +111,15 @@ pub fn query(
         flat_count_of description tiles body.now window }
     ensures bound { result.number ≡ 0 → Bounded tiles body.now result }
 {
-    let asked = check_asked(description, tiles, window);
-    if asked.number != 0 {
-        return refused(asked.number, asked.place);
+    if let Err(e) = check_asked(description, tiles, window) {
+        return refused(e.reason.number(), e.place);
     }
     let shaped = rtree::check_shape(description, tiles, body);
     if shaped.number != 0 {
         return refused(shaped.number, shaped.place);
     }
-    let sides = window.sides;
-    let ends = windows::window_ends(sides, description.dimensions);
-    let walk = walk_tree(description, shaped, body, &ends, out);
+    let asked = Asked::of(description, window);
+    let walk = walk_tree(description, shaped, body, asked, out);
     Answer {
         number: 0,
         place: 0,
@@ -98,61 +133,55 @@ pub fn box_test(description: Description, bytes: &[u8], window: Window) -> BoxTe
     ensures answer { result ≡ box_test_answer description bytes.now window }
     ensures read { result.number ≡ 0 → ReadUp description bytes.now window result.tested }
 {
-    let told = check_box_test(description, bytes, window);
-    if told.number != 0 {
-        return BoxTest {
-            number: told.number,
-            place: told.place,
+    match check_box_test(description, bytes, window) {
+        Err(e) => BoxTest {
+            number: e.reason.number(),
+            place: e.place,
             tested: Tested {
                 meets: false,
                 read: 0,
             },
-        };
-    }
-    let dimensions = description::sides_of(description.dimensions);
-    let kinds = description.kinds;
-    let sides = window.sides;
-    let ends = windows::window_ends(sides, description.dimensions);
-    let tested = test_box(bytes, dimensions, kinds, &ends);
-    BoxTest {
-        number: 0,
-        place: 0,
-        tested: tested,
+        },
+        Ok(()) => {
+            let asked = Asked::of(description, window);
+            BoxTest {
+                number: 0,
+                place: 0,
+                tested: test_box(bytes, &asked),
+            }
+        }
     }
 }
 
 // 1, 28, the window, the bytes.
-fn check_box_test(description: Description, bytes: &[u8], window: Window) -> Refusal
-    ensures { result ≡ box_test_refusal description bytes.now window }
+fn check_box_test(description: Description, bytes: &[u8], window: Window) -> Result<(), Refused>
+    ensures { told result ≡ box_test_refusal description bytes.now window }
 {
+    description.check()?;
+    windows::check_window(description, window)?;
     let len = bytes.len();
-    let other = len != description.box_bytes();
-    description
-        .check()
-        .or(windows::check_window(description, window))
-        .or(Refusal::when(other, Refusal::BYTES, len as u64))
+    Reason::Bytes.when(len != description.box_bytes(), len as u64)
 }
 
+// By number and place, since a shape's refusal has these and no error.
 fn refused(number: u64, place: u64) -> Answer
     ensures { result ≡ refused_answer (refusal number place) }
 {
     Answer {
-        number: number,
-        place: place,
+        number,
+        place,
         found: 0,
         looked: 0,
     }
 }
 
 // 1, 28, 10, the window.
-fn check_asked(description: Description, tiles: u64, window: Window) -> Refusal
-    ensures { result ≡ asked_refusal description tiles window }
+fn check_asked(description: Description, tiles: u64, window: Window) -> Result<(), Refused>
+    ensures { told result ≡ asked_refusal description tiles window }
 {
-    let outside = Description::tiles_outside(tiles);
-    description
-        .check()
-        .or(Refusal::when(outside, Refusal::TILES, 0))
-        .or(windows::check_window(description, window))
+    description.check()?;
+    Reason::Tiles.when(Description::tiles_outside(tiles), 0)?;
+    windows::check_window(description, window)
 }
 
 // The walk of a tree that passed the check of its shape, by a window that passed its own.
@@ -160,46 +189,23 @@ fn walk_tree(
     description: Description,
     shaped: Shaped,
     body: &[u8],
-    ends: &[u64; 8],
+    asked: Asked,
     out: &mut [u32],
 ) -> Walk
-    requires { RootRow (shaped_ground description shaped body.now ends.now) shaped.shape.levels out.old }
-    ensures { state result out.new ≡ root_walked (shaped_ground description shaped body.now ends.now) shaped.shape.levels out.old }
+    requires { RootRow (shaped_ground description shaped body.now asked) shaped.shape.levels out.old }
+    ensures { state result out.new ≡ root_walked (shaped_ground description shaped body.now asked) shaped.shape.levels out.old }
 {
-    let dimensions = description::sides_of(description.dimensions);
-    let box_bytes = description.box_bytes();
     let shape = shaped.shape;
     let table = shape.table;
-    let plan = plan_of(dimensions, box_bytes, shaped.fanout, table);
-    let kinds = description.kinds;
+    let plan = Plan {
+        asked,
+        box_bytes: description.box_bytes(),
+        fanout: shaped.fanout,
+        table,
+    };
     let none = Walk { found: 0, count: 0 };
     // The root's row is the row of a box above it.
-    walk_row(body, ends, kinds, &plan, shape.levels - 1, 0, out, none)
-}
-
-// The numbers that a walk goes by are in one array, its plan, so that each row hands on one reference to them: three at
-// these places, and from the fourth place on the table of the levels.
-const DIMENSIONS: usize = 0;
-
-const BOX_BYTES: usize = 1;
-
-const FANOUT: usize = 2;
-
-const TABLE: usize = 3;
-
-fn plan_of(dimensions: usize, box_bytes: usize, fanout: usize, table: [usize; 50]) -> [usize; 53]
-    ensures { result ≡ dimensions ∷ box_bytes ∷ fanout ∷ table }
-{
-    let mut plan = [0; 53];
-    plan[DIMENSIONS] = dimensions;
-    plan[BOX_BYTES] = box_bytes;
-    plan[FANOUT] = fanout;
-    let mut i: usize = TABLE;
-    while i < 53 {
-        plan[i] = table[i - TABLE];
-        i += 1;
-    }
-    plan
+    walk_row(body, &plan, shape.levels - 1, 0, out, none)
 }
 
 // Looking at one box and walking a row of boxes call each other. A walk starts with the row of the root.
@@ -207,40 +213,31 @@ fn plan_of(dimensions: usize, box_bytes: usize, fanout: usize, table: [usize; 50
 #[cycle(visit_walk_row)]
 fn visit(
     body: &[u8],
-    ends: &[u64; 8],
-    kinds: [Dimension; 4],
-    plan: &[usize; 53],
+    plan: &Plan,
     distance: usize,
     k: usize,
     place: usize,
     out: &mut [u32],
     walk: Walk,
 ) -> Walk
-    requires { Box (planned body.now plan.now kinds ends.now) distance k place (state walk out.old) }
-    ensures { state result out.new ≡ visited (planned body.now plan.now kinds ends.now) distance k (state walk out.old) }
+    requires { Box (planned body.now plan.now) distance k place (state walk out.old) }
+    ensures { state result out.new ≡ visited (planned body.now plan.now) distance k (state walk out.old) }
 {
-    let box_bytes = plan[BOX_BYTES];
-    let dimensions = plan[DIMENSIONS];
-    let seen = look_at(body, place, box_bytes, dimensions, kinds, ends, walk.count);
-    let count = seen.count;
-    let found = walk.found;
+    let seen = look_at(body, place, plan, walk.count);
     let looked = Walk {
-        found: found,
-        count: count,
+        found: walk.found,
+        count: seen.count,
     };
-    if seen.tested.meets {
-        if distance == 0 {
-            answers::keep(out, found, k as u32);
-            let more = found + 1;
-            Walk {
-                found: more,
-                count: count,
-            }
-        } else {
-            walk_row(body, ends, kinds, plan, distance - 1, k, out, looked)
-        }
-    } else {
-        looked
+    if !seen.tested.meets {
+        return looked;
+    }
+    if distance > 0 {
+        return walk_row(body, plan, distance - 1, k, out, looked);
+    }
+    answers::keep(out, walk.found, k as u32);
+    Walk {
+        found: walk.found + 1,
+        count: seen.count,
     }
 }
 
@@ -248,83 +245,66 @@ fn visit(
 #[cycle(visit_walk_row)]
 fn walk_row(
     body: &[u8],
-    ends: &[u64; 8],
-    kinds: [Dimension; 4],
-    plan: &[usize; 53],
+    plan: &Plan,
     distance: usize,
     parent: usize,
     out: &mut [u32],
     walk: Walk,
 ) -> Walk
-    requires { ChildRow (planned body.now plan.now kinds ends.now) distance parent (state walk out.old) }
-    ensures { state result out.new ≡ children_walked (planned body.now plan.now kinds
-        ends.now) distance parent (state walk out.old) }
+    requires { ChildRow (planned body.now plan.now) distance parent (state walk out.old) }
+    ensures { state result out.new ≡ children_walked (planned body.now plan.now) distance parent (state walk out.old) }
 {
-    let fanout = plan[FANOUT];
-    let box_bytes = plan[BOX_BYTES];
+    let fanout = plan.fanout;
+    let box_bytes = plan.box_bytes;
     let first = parent * fanout;
-    let last = first + tree::row_length(fanout, plan[TABLE + 2 * distance + 1], first);
-    let mut place = plan[TABLE + 2 * distance] + first * box_bytes;
+    let last = first + tree::row_length(fanout, plan.table[2 * distance + 1], first);
+    let mut place = plan.table[2 * distance] + first * box_bytes;
     let mut sofar = walk;
-    let mut k = first;
-    while k < last {
-        sofar = visit(body, ends, kinds, plan, distance, k, place, out, sofar);
+    for k in first..last {
+        sofar = visit(body, plan, distance, k, place, out, sofar);
         place += box_bytes;
-        k += 1;
     }
     sofar
 }
 
 // Reads and tests a box of the body, and gives the count back one higher.
-fn look_at(
-    body: &[u8],
-    place: usize,
-    box_bytes: usize,
-    dimensions: usize,
-    kinds: [Dimension; 4],
-    ends: &[u64; 8],
-    count: usize,
-) -> Looked
-    requires box_bytes_in_bounds { (place + box_bytes ≤ length body.now) × (count + 1 < 2 ^ 64) }
-    requires box_bytes_value { (box_bytes ≡ side_start kinds dimensions) × Carries kinds ends.now dimensions }
-    ensures look { (result.tested.meets ≡ meets_carried kinds ends.now dimensions (take box_bytes
+fn look_at(body: &[u8], place: usize, plan: &Plan, count: usize) -> Looked
+    requires box_bytes_in_bounds { (place + plan.now.box_bytes ≤ length body.now) × (count + 1 < 2 ^ 64) }
+    requires box_bytes_value { (plan.now.box_bytes ≡ side_start plan.now.asked.kinds plan.now.asked.dimensions) × Carried plan.now.asked }
+    ensures look { (result.tested.meets ≡ meets_asked plan.now.asked (take plan.now.box_bytes
         (drop place body.now))) × (result.count ≡ count + 1) }
-    ensures read { result.tested.read ≡ read_carried kinds ends.now dimensions (take box_bytes
+    ensures read { result.tested.read ≡ read_asked plan.now.asked (take plan.now.box_bytes
         (drop place body.now)) }
 {
-    let end = place + box_bytes;
-    let tested = test_box(&body[place..end], dimensions, kinds, ends);
+    let end = place + plan.box_bytes;
+    let tested = test_box(&body[place..end], &plan.asked);
     Looked {
-        tested: tested,
+        tested,
         count: count + 1,
     }
 }
 
 // Whether a box meets the window in each dimension. The number of dimensions read starts at 0 and goes through each
 // dimension's test, of which the first that misses is the last.
-fn test_box(bytes: &[u8], dimensions: usize, kinds: [Dimension; 4], ends: &[u64; 8]) -> Tested
-    requires { (side_start kinds dimensions ≤ length bytes.now) × Carries kinds ends.now dimensions }
-    ensures { (result.meets ≡ meets_carried kinds ends.now dimensions bytes.now) × (result.read ≡
-        read_carried kinds ends.now dimensions bytes.now) }
+fn test_box(bytes: &[u8], asked: &Asked) -> Tested
+    requires { (side_start asked.now.kinds asked.now.dimensions ≤ length bytes.now) × Carried asked.now }
+    ensures { (result.meets ≡ meets_asked asked.now bytes.now) × (result.read ≡ read_asked asked.now bytes.now) }
 {
     let mut tested = Tested {
         meets: true,
         read: 0, // counted as looks are
     };
     let mut at: usize = 0;
-    let mut i: usize = 0;
-    while i < 4 {
-        if dimensions <= i {
+    for i in 0..4 {
+        if asked.dimensions <= i {
             return tested;
         }
-        let d = kinds[i];
-        let kind = d.kind;
-        tested = test_side(bytes, at, kind, ends, i, tested.read);
+        let kind = asked.kinds[i].kind;
+        tested = test_side(bytes, at, kind, &asked.ends, i, tested.read);
         if !tested.meets {
             return tested;
         }
         at += kind.range_bytes();
-        i += 1;
     }
     tested
 }
@@ -369,8 +349,8 @@ fn f32s_have_nan(bytes: &[u8]) -> bool
     ensures { result ≡ (nan_bits binary32 (first_of_two bytes.now 0 4)
         || nan_bits binary32 (second_of_two bytes.now 0 4)) }
 {
-    let ends = order::pair32_at(bytes, 0);
-    floats::f32_nan_pattern(ends.low) || floats::f32_nan_pattern(ends.high)
+    let ends = order::pair_at::<u32>(bytes, 0);
+    f32::nan_pattern(ends.low) || f32::nan_pattern(ends.high)
 }
 
 // Whether one of two float64 has a NaN's pattern. Their upper bytes tell it of nearly every number, so that all eight are
@@ -382,8 +362,8 @@ fn f64s_have_nan(bytes: &[u8]) -> bool
     if is_small(order::u32_at(bytes, 4)) && is_small(order::u32_at(bytes, 12)) {
         return false;
     }
-    let ends = order::pair64_at(bytes, 0);
-    floats::f64_nan_pattern(ends.low) || floats::f64_nan_pattern(ends.high)
+    let ends = order::pair_at::<u64>(bytes, 0);
+    f64::nan_pattern(ends.low) || f64::nan_pattern(ends.high)
 }
 
 // Whether the upper four bytes of a float64 are below those of an infinity, whatever the sign.
@@ -404,11 +384,11 @@ fn range_in(bytes: &[u8], at: usize, kind: Kind) -> Range
         Kind::Int32 => Range::read(&bytes[at..at + 8], 0, Kind::Int32),
         Kind::Int64 => Range::read(&bytes[at..at + 16], 0, Kind::Int64),
         Kind::Float32 => {
-            let ends = order::pair32_at(&bytes[at..at + 8], 0);
+            let ends = order::pair_at::<u32>(&bytes[at..at + 8], 0);
             Range::F32(f32::from_bits(ends.low), f32::from_bits(ends.high))
         }
         Kind::Float64 => {
-            let ends = order::pair64_at(&bytes[at..at + 16], 0);
+            let ends = order::pair_at::<u64>(&bytes[at..at + 16], 0);
             Range::F64(f64::from_bits(ends.low), f64::from_bits(ends.high))
         }
         Kind::Uint64 => Range::read(&bytes[at..at + 16], 0, Kind::Uint64),

@@ -6,6 +6,8 @@ ghost use Rattle.description.specs.Kinds.{end_bytes};
 ghost use Rattle.ranges.specs.Ranges.{kind_of, ends_of, ends_at, fitted, range_of, range_at};
 
 use description::Kind;
+use floats::Float;
+use ints::Int;
 
 // A minimum and a maximum, of one kind.
 #[derive(Clone, Copy)]
@@ -38,28 +40,29 @@ impl Range {
     }
 
     // The range of a kind at a place of lent bytes; from 0 to 0 where it is not wholly there.
+    #[tactic(auto, unfolding(crate::specs::Ranges::ends_at))]
     pub fn read(bytes: &[u8], at: usize, kind: Kind) -> Range
         ensures { result ≡ range_at kind bytes.now at }
     {
         match kind {
             Kind::Int32 => {
-                let ends = order::pair32_at(bytes, at);
-                Range::I32(ints::i32_of(ends.low), ints::i32_of(ends.high))
+                let ends = order::pair_at(bytes, at);
+                Range::I32(i32::of(ends.low), i32::of(ends.high))
             }
             Kind::Int64 => {
-                let ends = order::pair64_at(bytes, at);
-                Range::I64(ints::i64_of(ends.low), ints::i64_of(ends.high))
+                let ends = order::pair_at(bytes, at);
+                Range::I64(i64::of(ends.low), i64::of(ends.high))
             }
             Kind::Float32 => {
-                let ends = order::pair32_at(bytes, at);
-                Range::F32(floats::f32_of(ends.low), floats::f32_of(ends.high))
+                let ends = order::pair_at(bytes, at);
+                Range::F32(f32::of(ends.low), f32::of(ends.high))
             }
             Kind::Float64 => {
-                let ends = order::pair64_at(bytes, at);
-                Range::F64(floats::f64_of(ends.low), floats::f64_of(ends.high))
+                let ends = order::pair_at(bytes, at);
+                Range::F64(f64::of(ends.low), f64::of(ends.high))
             }
             Kind::Uint64 => {
-                let ends = order::pair64_at(bytes, at);
+                let ends = order::pair_at(bytes, at);
                 Range::U64(ends.low, ends.high)
             }
         }
@@ -70,40 +73,38 @@ impl Range {
         ensures { result ≡ range_of kind (fitted kind low) (fitted kind high) }
     {
         match kind {
-            Kind::Int32 => Range::I32(
-                ints::i32_of(ints::low_four(low)),
-                ints::i32_of(ints::low_four(high)),
-            ),
-            Kind::Int64 => Range::I64(ints::i64_of(low), ints::i64_of(high)),
+            Kind::Int32 => Range::I32(i32::of(ints::low_four(low)), i32::of(ints::low_four(high))),
+            Kind::Int64 => Range::I64(i64::of(low), i64::of(high)),
             Kind::Float32 => Range::F32(
-                floats::f32_of(ints::low_four(low)),
-                floats::f32_of(ints::low_four(high)),
+                f32::of(ints::low_four(low)),
+                f32::of(ints::low_four(high)),
             ),
-            Kind::Float64 => Range::F64(floats::f64_of(low), floats::f64_of(high)),
+            Kind::Float64 => Range::F64(f64::of(low), f64::of(high)),
             Kind::Uint64 => Range::U64(low, high),
         }
     }
 
+    #[tactic(auto, unfolding(crate::specs::Ranges::ends_of))]
     pub fn patterns(self) -> Patterns
         ensures { (result.low ≡ (ends_of self).low) × (result.high ≡ (ends_of self).high)
             × (result.low < 256 ^ end_bytes (kind_of self)) × (result.high < 256 ^ end_bytes (kind_of self)) }
     {
         match self {
             Range::I32(low, high) => Patterns {
-                low: ints::i32_bits(low) as u64,
-                high: ints::i32_bits(high) as u64,
+                low: low.bits() as u64,
+                high: high.bits() as u64,
             },
             Range::I64(low, high) => Patterns {
-                low: ints::i64_bits(low),
-                high: ints::i64_bits(high),
+                low: low.bits(),
+                high: high.bits(),
             },
             Range::F32(low, high) => Patterns {
-                low: floats::f32_bits(low) as u64,
-                high: floats::f32_bits(high) as u64,
+                low: low.bits() as u64,
+                high: high.bits() as u64,
             },
             Range::F64(low, high) => Patterns {
-                low: floats::f64_bits(low),
-                high: floats::f64_bits(high),
+                low: low.bits(),
+                high: high.bits(),
             },
             Range::U64(low, high) => Patterns {
                 low: low,
@@ -120,14 +121,14 @@ pub fn patterns_at(bytes: &[u8], at: usize, kind: Kind) -> Patterns
 {
     match kind {
         Kind::Int32 | Kind::Float32 => {
-            let ends = order::pair32_at(bytes, at);
+            let ends = order::pair_at::<u32>(bytes, at);
             Patterns {
                 low: ends.low as u64,
                 high: ends.high as u64,
             }
         }
         Kind::Int64 | Kind::Float64 | Kind::Uint64 => {
-            let ends = order::pair64_at(bytes, at);
+            let ends = order::pair_at::<u64>(bytes, at);
             Patterns {
                 low: ends.low,
                 high: ends.high,

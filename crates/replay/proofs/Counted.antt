@@ -7,6 +7,7 @@ use Prim.Native.Nat.{ℕ, suc, ◌+◌, ◌-◌, ◌≤◌, ◌<◌}
 use native.Mathlib.Numerals.{add-one}
 use native.Mathlib.Omega.{arith}
 use lib.Dec.{eqb}
+use mir.Val.{bool_byte}
 use lib.ListN.{length, get_or, drop, drop_of_length-le}
 use lib.Seq.{drop-cons}
 use borrow.Author.Tests.{eq-eqb, ne_eqb}
@@ -22,6 +23,14 @@ module _ (t : Bytes) (i : ℕ) where
   pub newlines-end : length t ≤ i → newlines (drop i t) ≡ 0
   unfolding newlines
   newlines-end h = rw (drop_of_length-le t {i = i} h)
+
+-- a test as a number
+pub as_number : (b : ℕ) → bool_byte (eqb b newline) ≡ ends_line b
+as_number b = go (eqb b newline)
+  where
+    go : (e : Bool) → bool_byte e ≡ cond e 1 0
+    go true = refl
+    go false = refl
 
 pub ends-most : (b : ℕ) → ends_line b ≤ 1
 ends-most b = go (eqb b newline)

@@ -10,6 +10,7 @@ use native.Mathlib.Omega.{arith}
 use lib.Dec.{eqb, leb, lit<}
 use lib.ListN.{length, get_or}
 use borrow.Author.Tests.{leb-true, ne_eqb, eq-eqb, eqb-true}
+use Rattle.std.specs.Option.{unwrap_or}
 use Rattle.answers.proofs.Filled.{row-length, row_at}
 use Rattle.description.specs.declared.Description.{Description}
 use Rattle.description.proofs.Tests.{both}
@@ -69,10 +70,10 @@ pieces-back (p ∷ q ∷ ps) l h =
 -- ---- a record
 module _ (d : Description) (n : ℕ) (body : Bytes) (i : ℕ) (line : Bytes) where
   abbrev found : ℕ
-  found = (logged_found d line).value
+  found = unwrap_or (logged_found d line) 0
 
   abbrev looked : ℕ
-  looked = (logged_looked d line).value
+  looked = unwrap_or (logged_looked d line) 0
 
   abbrev found_now_lem : ℕ
   found_now_lem = (answer_now d n body line).found

@@ -2,7 +2,7 @@
 -- digits; and a log has no more lines than bytes. So 113 bytes a line are always room enough (`room-enough`).
 -- Assumes nothing.
 use mathlib.Core.Path.{◌≡◌, refl, sym}
-use mathlib.Core.Bool.{Bool, true, false, cond, ◌&&◌}
+use mathlib.Core.Bool.{Bool, true, false, cond}
 use mathlib.Core.List.{List, [], ◌∷◌, ◌++◌}
 use Prim.Native.Nat.{ℕ, zero, suc, ◌+◌, ◌-◌, ◌*◌, ◌/◌, ◌^◌, ◌≤◌, ◌<◌}
 use native.Mathlib.Nat.{le-div_iff_mul-le}
@@ -10,13 +10,14 @@ use native.Mathlib.Omega.{arith}
 use lib.Dec.{eqb, leb, lit<}
 use lib.ListN.{length, length-append}
 use borrow.Author.Tests.{eqb-true, le-leb}
+use Rattle.std.specs.Option.{unwrap_or}
 use Rattle.answers.specs.Runs.{over, join}
 use Rattle.answers.proofs.Runs.{Each}
 use Rattle.description.specs.declared.Description.{Description}
 use Rattle.description.specs.Description.{sides_of, bytes_of_box}
 use Rattle.boxes.specs.declared.Window.{Window}
 use Rattle.decimal.proofs.Written.{twenty-digits}
-use Rattle.decimal.proofs.Steps.{read-most}
+use Rattle.decimal.proofs.Steps.{value-most}
 use Rattle.tree.specs.Shape.{height}
 use Rattle.tree.proofs.Places.{boxes-inside}
 use Rattle.tree.proofs.Steps.{found-le}
@@ -26,10 +27,11 @@ use Rattle.query.specs.declared.Answer.{Answer}
 use Rattle.query.specs.Query.{meeting, looked_at, found_at, refused_answer, query_refusal, query_answer, query_answer_by}
 use Rattle.query.proofs.Promised.{passed-all}
 use Rattle.text.specs.Text.{Bytes, newline, onto, cut, lines, line_at, part, tab}
-use Rattle.replay.specs.declared.Outcome.{Outcome}
+use Rattle.std.specs.Prelude.{Some, None}
+use Rattle.replay.specs.declared.Compared.{Compared}
 use Rattle.replay.specs.Records.{logged_window, logged_found, logged_looked}
-use Rattle.replay.specs.Replay.{answer_now, is_good, record_text, record_text_by, record_line, replay_text, replay_text_by, most_line}
-use Rattle.replay.specs.Code.Writing.{outcome_line}
+use Rattle.replay.specs.Replay.{compared_text, bad_text, answer_now, is_good, record_text, record_text_by, record_line, replay_text, replay_text_by, most_line}
+use Rattle.replay.specs.Code.Writing.{outcome_line, agreed}
 use Rattle.replay.proofs.Writing.{bad-length, good_length, verdict-short}
 
 -- ---- what a query answers fits
@@ -62,34 +64,36 @@ module _ (d : Description) (n : ℕ) (body : Bytes) (w : Window) (small : length
 
 -- ---- one line
 module _ (d : Description) (n : ℕ) (body : Bytes) (small : length body < 2 ^ 64) (i : ℕ) (low : i < 2 ^ 64) (line : Bytes) where
-  told : Bool → Outcome
-  told good = record {
-    good = good;
-    found = (logged_found d line).value;
-    looked = (logged_looked d line).value;
-    found_now = (answer_now d n body line).found;
-    looked_now = (answer_now d n body line).looked;
+  told : Compared
+  told = record {
+    logged = record { found = unwrap_or (logged_found d line) 0; looked = unwrap_or (logged_looked d line) 0 };
+    now = record { found = (answer_now d n body line).found; looked = (answer_now d n body line).looked };
   }
 
-  told-most : (good : Bool) → length (outcome_line i (told good)) ≤ most_line
+  told-most : (good : Bool) → length (outcome_line i (cond good (Some told) None)) ≤ most_line
   unfolding told
-  told-most false = omega (arith, bad-length i (told false) refl, twenty-digits i low)
+  told-most false = omega (arith, bad-length i, twenty-digits i low)
   told-most true =
       let a = answer-fits d n body (logged_window d line) small in
       omega (
         arith,
-        good_length i (told true) refl refl,
-        verdict-short (eqb (told true).found (told true).found_now && eqb (told true).looked (told true).looked_now),
+        good_length i told refl,
+        verdict-short (agreed told),
         twenty-digits i low,
-        twenty-digits (told true).found (omega (arith, read-most (2 ^ 64 - 1) (part tab (2 * sides_of d.dimensions) line))),
-        twenty-digits (told true).looked (omega (arith, read-most (2 ^ 64 - 1) (part tab (2 * sides_of d.dimensions + 1) line))),
-        twenty-digits (told true).found_now a.0,
-        twenty-digits (told true).looked_now a.1,
+        twenty-digits told.logged.found (omega (arith, value-most (2 ^ 64 - 1) (part tab (2 * sides_of d.dimensions) line))),
+        twenty-digits told.logged.looked (omega (arith, value-most (2 ^ 64 - 1) (part tab (2 * sides_of d.dimensions + 1) line))),
+        twenty-digits told.now.found a.0,
+        twenty-digits told.now.looked a.1,
       )
 
   line-most : length (record_text d n body i line ++ newline ∷ []) ≤ most_line
   unfolding record_text_by told
-  line-most = told-most (is_good d n body line)
+  line-most = go (is_good d n body line) (told-most (is_good d n body line))
+    where
+      go : (b : Bool) → length (outcome_line i (cond b (Some told) None)) ≤ most_line
+          → length (cond b (compared_text i told.logged.found told.logged.looked told.now.found told.now.looked) (bad_text i) ++ newline ∷ []) ≤ most_line
+      go true h = h
+      go false h = h
 
 -- ---- all lines
 join-most : (g : ℕ → Bytes) (most k m : ℕ) → Each (λ i. length (g i) ≤ most) k m → length (join g k m) ≤ most * m

@@ -9,50 +9,78 @@ use native.Mathlib.Nat.{div-add-mod, mod-lt, eq-or-lt_of_le}
 use native.Mathlib.Decide.{dec_lt}
 use native.Mathlib.Omega.{arith}
 use lib.Dec.{leb, lit<}
+use lib.IntN.{ℤ, pos, negsuc}
+use lib.Signed.{mag}
 use lib.ListN.{length, get_or, length-append}
 use borrow.Author.Tests.{eqb-true, le-leb}
+use Rattle.std.specs.Prelude.{Option, Some, None, is_some}
 use Rattle.answers.proofs.Runs.{over-says}
 use Rattle.description.specs.declared.Kind.{Kind}
 use Rattle.description.specs.declared.Kind.TheVariants.{Int32, Int64, Float32, Float64, Uint64}
 use Rattle.description.specs.declared.Description.{Description}
 use Rattle.description.specs.Description.{kind_at, sides_of}
 use Rattle.description.proofs.Tests.{both, and-false}
-use Rattle.decimal.specs.Read.{read_signed, signed_text}
+use Rattle.decimal.specs.Read.{read_signed, signed_text, signed32, signed64}
 use Rattle.decimal.proofs.Back.{read-exact}
 use Rattle.decimal.proofs.Steps.{read-most}
 use Rattle.decimal.proofs.Written.{digits-enough, twenty-digits}
-use Rattle.decimal.proofs.Signed.{Way, below, from, none, way_of, signed-exact}
-use Rattle.range_text.specs.Ranges.{number64, read_range}
+use Rattle.decimal.proofs.Signed.{signed-most, signed-exact}
+use Rattle.ranges.specs.declared.Range.{Range}
+use Rattle.ranges.specs.declared.Range.TheVariants.{I32, I64, U64}
+use Rattle.range_text.specs.Ranges.{number64, from_to, read_range}
 use Rattle.text.specs.Text.{Bytes, tab, parts, part, joined}
 use Rattle.text.proofs.Back.{joined_back}
 use Rattle.replay.specs.Records.{dimension_read, logged_found, logged_looked, numbers_read, is_readable}
 
 -- ---- a number
-number_short : (t : Bytes) → (number64 t).read ≡ true → length t ≤ 20
-number_short t h =
-    let e = ap length (read-exact (2 ^ 64 - 1) t h) in
-    omega (arith, e, twenty-digits (number64 t).value (omega (arith, read-most (2 ^ 64 - 1) t)))
+number_short : (t : Bytes) → is_some (number64 t) ≡ true → length t ≤ 20
+number_short t h = go (number64 t) refl h
+  where
+    go : (r : Option ℕ) → number64 t ≡ r → is_some r ≡ true → length t ≤ 20
+    go None e h = absurd (true≢false (sym h))
+    go (Some n) e h =
+        omega (
+          arith,
+          ap length (read-exact (2 ^ 64 - 1) t n e),
+          twenty-digits n (omega (arith, read-most (2 ^ 64 - 1) t e)),
+        )
 
-way-short : (half : ℕ) {s : _} → half ≤ 2 ^ 63 → Way half s → length (signed_text s) ≤ 20
-way-short half h (below m l) = omega (arith, digits-enough 18 (suc m) (omega arith))
-way-short half h (from m l) = omega (arith, digits-enough 18 m (omega arith))
-way-short half h none = omega (arith, digits-enough 18 0 (omega arith))
+-- a signed one
+signed_text-short : (half : ℕ) (z : ℤ) → half ≤ 2 ^ 63 → mag z < half → length (signed_text z) ≤ 20
+signed_text-short half (pos n) h l = omega (arith, digits-enough 18 n (omega arith))
+signed_text-short half (negsuc n) h l = omega (arith, digits-enough 18 (suc n) (omega arith))
 
-signed-short : (half : ℕ) → 0 < half → half ≤ 2 ^ 63 → (t : Bytes) → (read_signed half t).read ≡ true → length t ≤ 20
-signed-short half some h t r = omega (arith, ap length (signed-exact half t r), way-short half h (way_of half t some))
+signed-short : (half : ℕ) → 0 < half → half ≤ 2 ^ 63 → (t : Bytes) → is_some (read_signed half t) ≡ true → length t ≤ 20
+signed-short half some h t r = go (read_signed half t) refl r
+  where
+    go : (r : Option ℤ) → read_signed half t ≡ r → is_some r ≡ true → length t ≤ 20
+    go None e h = absurd (true≢false (sym h))
+    go (Some z) e _ =
+        omega (
+          arith,
+          ap length (signed-exact half t z e),
+          signed_text-short half z h (signed-most half t z some e),
+        )
 
-ends-short : (k : Kind) (low high : Bytes) → (read_range k low high).read ≡ true → (length low ≤ 20) × (length high ≤ 20)
+-- both ends of a range
+both_read : {N : Type 0} (range : N → N → Range) (low high : Option N) → is_some (from_to range low high) ≡ true
+    → (is_some low ≡ true) × (is_some high ≡ true)
+both_read range None high h = absurd (true≢false (sym h))
+both_read range (Some low) None h = absurd (true≢false (sym h))
+both_read range (Some low) (Some high) h = (refl, refl)
+
+ends-short : (k : Kind) (low high : Bytes) → is_some (read_range k low high) ≡ true → (length low ≤ 20) × (length high ≤ 20)
 unfolding read_range
 ends-short Int32 low high h =
-    let b = both _ _ h in
+    let b = both_read I32 (signed32 low) (signed32 high) h in
     (signed-short (2 ^ 31) (omega arith) (omega arith) low b.0, signed-short (2 ^ 31) (omega arith) (omega arith) high b.1)
 ends-short Int64 low high h =
-    let b = both _ _ h in
+    let b = both_read I64 (signed64 low) (signed64 high) h in
     (signed-short (2 ^ 63) (omega arith) (omega arith) low b.0, signed-short (2 ^ 63) (omega arith) (omega arith) high b.1)
 ends-short Float32 low high h = absurd (true≢false (sym h))
 ends-short Float64 low high h = absurd (true≢false (sym h))
 ends-short Uint64 low high h =
-    let b = both _ _ h in
+    let b = both_read U64 (number64 low) (number64 high) h in
     (number_short low b.0, number_short high b.1)
 
 -- ---- all of them, with the tabs
@@ -72,8 +100,8 @@ joined-short sep most (p ∷ q ∷ ps) h =
 record Read (d : Description) (line : Bytes) : Type 0 where
   many : length (parts tab line) ≡ 2 * sides_of d.dimensions + 2
   ends : (i : ℕ) → i < sides_of d.dimensions → dimension_read d.kinds line i ≡ true
-  found : (logged_found d line).read ≡ true
-  looked : (logged_looked d line).read ≡ true
+  found : is_some (logged_found d line) ≡ true
+  looked : is_some (logged_looked d line) ≡ true
 
 all_read : (d : Description) (line : Bytes) → numbers_read d line ≡ true → Read d line
 unfolding numbers_read

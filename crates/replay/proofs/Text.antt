@@ -17,7 +17,8 @@ use Rattle.text.specs.Cursor.{end_from}
 use Rattle.text.specs.Code.Places.{AtLine, Wrote}
 use Rattle.text.proofs.Lines.{line-at, more-lines}
 use Rattle.text.proofs.Writing.{wrote-append, wrote-size, wrote_nothing}
-use Rattle.replay.specs.declared.Outcome.{Outcome}
+use Rattle.std.specs.Prelude.{Option}
+use Rattle.replay.specs.declared.Compared.{Compared}
 use Rattle.replay.specs.Replay.{record_text, record_line, replay_text, replay_text_by}
 use Rattle.replay.specs.Code.Writing.{outcome_text, outcome_line}
 
@@ -41,7 +42,7 @@ module _ (d : Description) (n : ℕ) (body log : Bytes) where
   none_left i e = over_done ◌++◌ [] (record_line d n body log) i (length (lines log) - i) (omega arith)
 
   -- the record at hand, as it is read, makes up line i of the text
-  module _ {i at e : ℕ} (here : AtLine log i at) (more : at < length log) (end : e ≡ end_from newline log at) (r : Outcome)
+  module _ {i at e : ℕ} (here : AtLine log i at) (more : at < length log) (end : e ≡ end_from newline log at) (r : Option Compared)
       (same : (i : ℕ) → outcome_text i r ≡ record_text d n body i (take (e - at) (drop at log))) where
     this-record : outcome_line i r ≡ record_line d n body log i
     this-record = ap (λ (t : Bytes). t ++ newline ∷ []) (same i) ∙ rw (line-at log i here end)
@@ -59,7 +60,7 @@ module _ (d : Description) (n : ℕ) (body log : Bytes) where
   pub measure-start : (room : ℕ) → Measures room room 0
   measure-start room = record { held = rw all_left }
 
-  module _ {i at e : ℕ} (here : AtLine log i at) (more : at < length log) (end : e ≡ end_from newline log at) (r : Outcome)
+  module _ {i at e : ℕ} (here : AtLine log i at) (more : at < length log) (end : e ≡ end_from newline log at) (r : Option Compared)
       (same : (i : ℕ) → outcome_text i r ≡ record_text d n body i (take (e - at) (drop at log)))
       {room left count : ℕ} (m : Measures room left i) (many : count ≡ length (outcome_line i r)) where
     pub measure-stop : left < count → false ≡ leb (length (replay_text d n body log)) room
@@ -82,7 +83,7 @@ module _ (d : Description) (n : ℕ) (body log : Bytes) where
   pub write-start : (out : Bytes) → Writes out out 0 0
   write-start out = record { size = refl; place = rw all_left (omega arith); rest = λ w. rw all_left w }
 
-  module _ {i at e : ℕ} (here : AtLine log i at) (more : at < length log) (end : e ≡ end_from newline log at) (r : Outcome)
+  module _ {i at e : ℕ} (here : AtLine log i at) (more : at < length log) (end : e ≡ end_from newline log at) (r : Option Compared)
       (same : (i : ℕ) → outcome_text i r ≡ record_text d n body i (take (e - at) (drop at log)))
       {first out : Bytes} {next : ℕ} (w : Writes first out next i) where
     pub write-room : length (replay_text d n body log) ≤ length first → next + length (outcome_line i r) ≤ length out

@@ -1,7 +1,7 @@
 -- What does a line of the log say? Tab-parted decimal numbers: the minimum and the maximum of each dimension in turn, then
 -- found and looked.
 -- Assumes nothing.
-use Rattle.std.specs.Prelude.{ℕ, ◌+◌, ◌*◌, Bool, ◌&&◌, List, leb, eqb, length}
+use Rattle.std.specs.Prelude.{ℕ, ◌+◌, ◌*◌, Bool, ◌&&◌, List, Option, leb, eqb, length, is_some, unwrap_or}
 use Rattle.answers.specs.Runs.{filled}
 use Rattle.description.specs.declared.Dimension.{Dimension}
 use Rattle.description.specs.declared.Description.{Description}
@@ -9,9 +9,8 @@ use Rattle.description.specs.Description.{kind_at, sides_of}
 use Rattle.boxes.specs.declared.Side.{Side}
 use Rattle.boxes.specs.declared.Window.{Window}
 use Rattle.boxes.specs.Boxes.{all, no_side}
-use Rattle.decimal.specs.declared.Number.{Number}
 use Rattle.text.specs.Text.{Bytes, tab, parts, part}
-use Rattle.range_text.specs.declared.ReadRange.{ReadRange}
+use Rattle.ranges.specs.declared.Range.{Range}
 use Rattle.range_text.specs.Ranges.{number64, read_range}
 
 -- "above 255 bytes"
@@ -26,21 +25,21 @@ module _ (kinds : List Dimension) (line : Bytes) where
   abbrev pub maximum_of : ℕ → Bytes
   maximum_of i = part tab (2 * i + 1) line
 
-  abbrev pub dimension_range : ℕ → ReadRange
+  abbrev pub dimension_range : ℕ → Option Range
   dimension_range i = read_range (kind_at kinds i) (minimum_of i) (maximum_of i)
 
   abbrev pub dimension_read : ℕ → Bool
-  dimension_read i = (dimension_range i).read
+  dimension_read i = is_some (dimension_range i)
 
   abbrev pub dimension_side : ℕ → Side
-  dimension_side i = record { range = (dimension_range i).range }
+  dimension_side i = record { range = unwrap_or (dimension_range i) no_side.range }
 
 module _ (d : Description) (line : Bytes) where
   -- "then found and looked"
-  abbrev pub logged_found : Number
+  abbrev pub logged_found : Option ℕ
   logged_found = number64 (part tab (2 * sides_of d.dimensions) line)
 
-  abbrev pub logged_looked : Number
+  abbrev pub logged_looked : Option ℕ
   logged_looked = number64 (part tab (2 * sides_of d.dimensions + 1) line)
 
   -- so many numbers, and each is read
@@ -48,8 +47,8 @@ module _ (d : Description) (line : Bytes) where
   numbers_read =
       eqb (length (parts tab line)) (2 * sides_of d.dimensions + 2)
       && all (dimension_read d.kinds line) 0 (sides_of d.dimensions)
-      && logged_found.read
-      && logged_looked.read
+      && is_some logged_found
+      && is_some logged_looked
 
   -- not: "a line that can't be read, is above 255 bytes"
   unfoldable pub is_readable : Bool

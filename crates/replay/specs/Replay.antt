@@ -1,6 +1,6 @@
 -- What does a replay write, and what does it answer?
 -- Assumes nothing.
-use Rattle.std.specs.Prelude.{ℕ, ◌<◌, ◌≡◌, Bool, cond, ◌&&◌, List, [], ◌∷◌, ◌++◌, ltb, eqb, length, drop}
+use Rattle.std.specs.Prelude.{ℕ, ◌<◌, ◌≡◌, Bool, cond, ◌&&◌, List, [], ◌∷◌, ◌++◌, ltb, eqb, length, drop, unwrap_or}
 use Rattle.answers.specs.Refusals.{room}
 use Rattle.answers.specs.Runs.{join}
 use Rattle.description.specs.declared.Description.{Description}
@@ -51,7 +51,7 @@ module _ (rules : Rules) (d : Description) (n : ℕ) (body : Bytes) where
   record_text_by i line =
       let now = answer_now_by line in
       cond (is_good_by line)
-      (compared_text i (logged_found d line).value (logged_looked d line).value now.found now.looked)
+      (compared_text i (unwrap_or (logged_found d line) 0) (unwrap_or (logged_looked d line) 0) now.found now.looked)
       (bad_text i)
 
   -- "one tab-parted line per record, ended by one newline"

@@ -1,15 +1,16 @@
 // Replay a log: each record's query is asked again, and the answer held to the logged one.
 #![tactic(auto)]
 
-ghost use Rattle.std.specs.Prelude.{◌≡◌, ◌&&◌, ℕ, ◌+◌, ◌*◌, ◌≤◌, leb, eqb, length, take};
+ghost use Rattle.std.specs.Prelude.{◌≡◌, ℕ, ◌+◌, ◌*◌, ◌≤◌, leb, length, take};
+ghost use Rattle.decimal.specs.Decimal.{decimal};
 ghost use Rattle.description.specs.Description.{sides_of};
 ghost use Rattle.text.specs.Text.{lines};
 ghost use Rattle.text.specs.Code.Places.{Wrote};
 ghost use Rattle.replay.specs.Replay.{record_text, replay_text, replay_answer, replay_buffer, most_line, OneEach};
-ghost use Rattle.replay.specs.Code.Reading.{ends_line, newlines, ReadSides, logged_of};
-ghost use Rattle.replay.specs.Code.Writing.{outcome_text, outcome_line, pair, verdict};
+ghost use Rattle.replay.specs.Code.Reading.{newlines, SidesRead, logged_of};
+ghost use Rattle.replay.specs.Code.Writing.{outcome_text, outcome_line, agreed, pair_text, verdict};
 
-use answers::Refusal;
+use answers::Reason;
 use boxes::{Side, Window};
 use description::Description;
 
@@ -52,7 +53,7 @@ pub fn replay(
         };
     }
     Replayed {
-        number: Refusal::ROOM,
+        number: Reason::Room.number(),
         place: 0,
         length: 0,
     }
@@ -77,9 +78,10 @@ fn count_lines(log: &[u8]) -> usize
     }
     let ended = newlines(log);
     if log[size - 1] == b'\n' {
-        return ended;
+        ended
+    } else {
+        ended + 1
     }
-    ended + 1
 }
 
 // A loop with no early leave, which is compiled to whole blocks of bytes.
@@ -87,18 +89,10 @@ fn newlines(text: &[u8]) -> usize
     ensures { result ≡ newlines text.now }
 {
     let mut count: usize = 0;
-    let mut i: usize = 0;
-    while i < text.len() {
-        count += ends_line(text[i]);
-        i += 1;
+    for byte in text {
+        count += (*byte == b'\n') as usize;
     }
     count
-}
-
-fn ends_line(byte: u8) -> usize
-    ensures { result ≡ ends_line byte }
-{
-    if byte == b'\n' { 1 } else { 0 }
 }
 
 // Measures line by line, until what is left of the room is too short.
@@ -141,134 +135,111 @@ fn write(description: Description, tiles: u64, body: &[u8], log: &[u8], out: &mu
     next
 }
 
-// What came of a record: not good where it is bad, else the logged pair and the pair found now.
-#[derive(Clone, Copy)]
-struct Outcome {
-    good: bool,
+// The two numbers of a query's answer.
+#[derive(Clone, Copy, Debug, PartialEq, Eq)]
+struct Pair {
     found: u64,
     looked: u64,
-    found_now: u64,
-    looked_now: u64,
 }
 
-const BAD: Outcome = Outcome {
-    good: false,
-    found: 0,
-    looked: 0,
-    found_now: 0,
-    looked_now: 0,
-};
+// A good record: the logged pair, and the pair found now.
+#[derive(Clone, Copy)]
+struct Compared {
+    logged: Pair,
+    now: Pair,
+}
 
-// The record is read and its query asked, with no room for tiles.
-fn outcome_of(description: Description, tiles: u64, body: &[u8], line: &[u8]) -> Outcome
+// The record is read and its query asked, with no room for tiles. None where it is bad.
+fn outcome_of(description: Description, tiles: u64, body: &[u8], line: &[u8]) -> Option<Compared>
     ensures { (i : ℕ) → outcome_text i result ≡ record_text description tiles body.now i
         line.now }
 {
     if MOST_BYTES < line.len() {
-        return BAD;
+        return None;
     }
-    let logged = read_record(description, line);
-    if !logged.read {
-        return BAD;
-    }
-    let window = logged.window;
+    let read = read_record(description, line)?;
     let mut none = [0u32; 1];
-    let answer = query::query(description, tiles, body, window, &mut none[..0]);
+    let answer = query::query(description, tiles, body, read.window, &mut none[..0]);
     if answer.number != 0 {
-        return BAD;
+        return None;
     }
-    Outcome {
-        good: true,
-        found: logged.found,
-        looked: logged.looked,
-        found_now: answer.found,
-        looked_now: answer.looked,
-    }
+    Some(Compared {
+        logged: read.logged,
+        now: Pair {
+            found: answer.found,
+            looked: answer.looked,
+        },
+    })
 }
 
-// The numbers of a line. Where one is not read, or another follows, `read` is false.
+// What a line says.
 #[derive(Clone, Copy)]
 struct Logged {
-    read: bool,
     window: Window,
-    found: u64,
-    looked: u64,
+    logged: Pair,
 }
 
-fn read_record(description: Description, line: &[u8]) -> Logged
+// None where a number is not read, or another follows.
+fn read_record(description: Description, line: &[u8]) -> Option<Logged>
     requires { length line.now ≤ 255 }
     ensures { result ≡ logged_of description line.now }
 {
-    let ends = read_sides(description, line);
-    let sides = ends.sides;
-    let start = ends.next;
-    let first = text::piece_from(line, start, b'\t');
-    let middle = start + first.len() + 1;
+    let ends = read_sides(description, line)?;
+    let first = text::piece_from(line, ends.next, b'\t');
+    let middle = ends.next + first.len() + 1;
     let second = text::piece_from(line, middle, b'\t');
-    let end = middle + second.len();
-    let found = decimal::read_u64(first);
-    let looked = decimal::read_u64(second);
-    Logged {
-        read: (end == line.len()) & ends.read & found.read & looked.read,
+    if middle + second.len() != line.len() {
+        return None;
+    }
+    let sides = ends.sides;
+    let found = decimal::read_u64(first)?;
+    let looked = decimal::read_u64(second)?;
+    Some(Logged {
         window: Window {
             dimensions: description.dimensions,
-            sides: sides,
+            sides,
         },
-        found: found.value,
-        looked: looked.value,
-    }
+        logged: Pair { found, looked },
+    })
 }
 
 // The ends of each dimension, and where the numbers after them start.
 #[derive(Clone, Copy)]
 struct Sides {
-    read: bool,
     sides: [Side; 4],
     next: usize,
 }
 
-fn read_sides(description: Description, line: &[u8]) -> Sides
+fn read_sides(description: Description, line: &[u8]) -> Option<Sides>
     requires { length line.now ≤ 255 }
-    ensures { ReadSides description.kinds line.now (sides_of description.dimensions) result }
+    ensures { SidesRead description.kinds line.now (sides_of description.dimensions) result }
 {
-    let kinds = description.kinds;
-    let count = description::sides_of(description.dimensions);
     let mut sides = boxes::no_box();
-    let mut read = true;
     let mut next: usize = 0;
-    let mut i: usize = 0;
-    while i < count {
+    for i in 0..description::sides_of(description.dimensions) {
         let low = text::piece_from(line, next, b'\t');
         let middle = next + low.len() + 1;
         let high = text::piece_from(line, middle, b'\t');
-        let dimension = kinds[i];
-        let kind = dimension.kind;
-        let ends = range_text::read_range(kind, low, high);
-        let range = ends.range;
-        let side = Side { range: range };
-        sides[i] = side;
-        read = read & ends.read;
+        let range = range_text::read_range(description.kinds[i].kind, low, high)?;
+        sides[i] = Side { range };
         next = middle + high.len() + 1;
-        i += 1;
     }
-    Sides {
-        read: read,
-        sides: sides,
-        next: next,
-    }
+    Some(Sides { sides, next })
 }
 
 // The bytes of a record's line, its newline too.
-fn line_length(i: u64, outcome: Outcome) -> usize
+fn line_length(i: u64, outcome: Option<Compared>) -> usize
     ensures { result ≡ length (outcome_line i outcome) }
 {
     let number = decimal::digits(i);
-    if !outcome.good {
-        return number + 5;
+    match outcome {
+        None => number + 5,
+        Some(compared) => {
+            let verdict = verdict_length(compared.agrees());
+            let pairs = pair_length(compared.logged) + pair_length(compared.now);
+            number + 1 + verdict + pairs
+        }
     }
-    let logged = decimal::digits(outcome.found) + decimal::digits(outcome.looked);
-    let now = decimal::digits(outcome.found_now) + decimal::digits(outcome.looked_now);
-    number + verdict_length(agree(outcome)) + logged + now + 5
 }
 
 fn verdict_length(same: bool) -> usize
@@ -277,25 +248,36 @@ fn verdict_length(same: bool) -> usize
     if same { 5 } else { 8 }
 }
 
-// Do both numbers agree?
-fn agree(outcome: Outcome) -> bool
-    ensures { result ≡ (eqb outcome.found outcome.found_now && eqb outcome.looked outcome.looked_now) }
+// Two numbers and a byte after each.
+fn pair_length(pair: Pair) -> usize
+    ensures { (result ≡ length (decimal pair.found) + length (decimal pair.looked) + 2) × (result ≤ 42) }
 {
-    (outcome.found == outcome.found_now) & (outcome.looked == outcome.looked_now)
+    decimal::digits(pair.found) + decimal::digits(pair.looked) + 2
+}
+
+impl Compared {
+    // Do both numbers agree?
+    fn agrees(self) -> bool
+        ensures { result ≡ agreed self }
+    {
+        self.logged == self.now
+    }
 }
 
 // A record's line. This and the next two answer where the next text goes.
-fn write_line(i: u64, outcome: Outcome, out: &mut [u8], at: usize) -> usize
+fn write_line(i: u64, outcome: Option<Compared>, out: &mut [u8], at: usize) -> usize
     requires { at + length (outcome_line i outcome) ≤ length out.old }
     ensures { Wrote 0 out.old at (outcome_line i outcome) out.new result }
 {
     let first = at + text::write_field(i, b'\t', 0, out, at);
-    if !outcome.good {
-        return first + text::write(b"bad\n", 0, out, first);
+    match outcome {
+        None => first + text::write(b"bad\n", 0, out, first),
+        Some(compared) => {
+            let second = write_verdict(compared.agrees(), out, first);
+            let third = write_pair(compared.logged, b'\t', out, second);
+            write_pair(compared.now, b'\n', out, third)
+        }
     }
-    let second = write_verdict(agree(outcome), out, first);
-    let third = write_pair(outcome.found, outcome.looked, b'\t', out, second);
-    write_pair(outcome.found_now, outcome.looked_now, b'\n', out, third)
 }
 
 fn write_verdict(same: bool, out: &mut [u8], at: usize) -> usize
@@ -308,10 +290,10 @@ fn write_verdict(same: bool, out: &mut [u8], at: usize) -> usize
     at + text::write(b"differs\t", 0, out, at)
 }
 
-fn write_pair(found: u64, looked: u64, end: u8, out: &mut [u8], at: usize) -> usize
-    requires { at + length (pair found looked end) ≤ length out.old }
-    ensures { Wrote 0 out.old at (pair found looked end) out.new result }
+fn write_pair(pair: Pair, end: u8, out: &mut [u8], at: usize) -> usize
+    requires { at + length (pair_text pair end) ≤ length out.old }
+    ensures { Wrote 0 out.old at (pair_text pair end) out.new result }
 {
-    let next = at + text::write_field(found, b'\t', 0, out, at);
-    next + text::write_field(looked, end, 0, out, next)
+    let next = at + text::write_field(pair.found, b'\t', 0, out, at);
+    next + text::write_field(pair.looked, end, 0, out, next)
 }

@@ -2,26 +2,24 @@
 // `report_text`.
 #![tactic(auto)]
 
-ghost use Rattle.std.specs.Prelude.{◌≡◌, ◌≤◌, length, IfOk};
+ghost use Rattle.std.specs.Prelude.{◌≤◌, length, IfOk, IfSome};
 
 use std::env::{Env, FillError};
 use std::fs::File;
 use std::io::{Read, Write};
 use std::{fs, io};
 
-// What came of reading a file: whether it could be read, and how many of its bytes stand at the start of the buffer.
-#[derive(Clone, Copy)]
-struct Loaded {
-    read: bool,
-    count: usize,
+// Why a file is not read.
+#[derive(Drop)]
+enum Trouble {
+    EmptyArgument,
+    NotUtf8,
+    Io(io::Error),
 }
 
-fn unread() -> Loaded
-    ensures { result.count ≡ 0 }
-{
-    Loaded {
-        read: false,
-        count: 0,
+impl From<io::Error> for Trouble {
+    fn from(error: io::Error) -> Trouble {
+        Trouble::Io(error)
     }
 }
 
@@ -51,6 +49,15 @@ fn words(text: &str) -> &str {
     }
 }
 
+// The line of a file that is not read.
+fn say(rt: &HostRuntime, what: &[u8], trouble: Trouble) {
+    match trouble {
+        Trouble::EmptyArgument => complain(rt, what, b"the argument is empty"),
+        Trouble::NotUtf8 => complain(rt, what, b"the path is not UTF-8"),
+        Trouble::Io(error) => fail(rt, what, error),
+    }
+}
+
 // As much of an open file as the buffer takes. A read that gets nothing has come to the end of the file.
 fn read_full(file: &mut File, buf: &mut [u8]) -> io::Result<usize>
     ensures { IfOk result (λ n. n ≤ length buf.new) }
@@ -66,34 +73,16 @@ fn read_full(file: &mut File, buf: &mut [u8]) -> io::Result<usize>
     Ok(done)
 }
 
-// The same, with a line to standard error where a read fails.
-fn load(rt: &HostRuntime, file: &mut File, path: &[u8], buf: &mut [u8]) -> Loaded
-    ensures { result.count ≤ length buf.new }
-{
-    match read_full(file, buf) {
-        Ok(count) => Loaded { read: true, count },
-        Err(error) => {
-            fail(rt, path, error);
-            unread()
-        }
-    }
-}
-
 // Files are opened by names that are UTF-8, and by no others.
-fn open_and_load(rt: &HostRuntime, path: &[u8], buf: &mut [u8]) -> Loaded
-    ensures { result.count ≤ length buf.new }
+fn load(rt: &HostRuntime, path: &[u8], buf: &mut [u8]) -> Result<usize, Trouble>
+    ensures { IfOk result (λ n. n ≤ length buf.new) }
 {
     let Ok(name) = str::from_utf8(path) else {
-        complain(rt, path, b"the path is not UTF-8");
-        return unread();
+        return Err(Trouble::NotUtf8);
     };
-    match fs::open(rt, name) {
-        Ok(mut file) => load(rt, &mut file, path, buf),
-        Err(error) => {
-            fail(rt, path, error);
-            unread()
-        }
-    }
+    let mut file = fs::open(rt, name)?;
+    let count = read_full(&mut file, buf)?;
+    Ok(count)
 }
 
 // The system's numbers for an argument that is missing, and for one that is too long for a path.
@@ -108,20 +97,40 @@ fn argument_error(error: FillError) -> io::Error {
     }
 }
 
-// The file that an argument names. A line says what the argument stands for where it is too long for a path, or empty.
-fn read_file(rt: &HostRuntime, i: usize, what: &[u8], buf: &mut [u8]) -> Loaded
-    ensures { result.count ≤ length buf.new }
+// The bytes of an argument.
+fn argument(rt: &HostRuntime, i: usize, path: &mut [u8]) -> Result<usize, Trouble>
+    ensures { IfOk result (λ n. n ≤ length path.new) }
+{
+    match rt.arg(i, path) {
+        Ok(0) => Err(Trouble::EmptyArgument),
+        Ok(n) => Ok(n),
+        Err(error) => Err(Trouble::Io(argument_error(error))),
+    }
+}
+
+// The file that an argument names, or else a line that says why it is not read. The line says what the argument stands
+// for where it is too long for a path, or empty.
+fn read_file(rt: &HostRuntime, i: usize, what: &[u8], buf: &mut [u8]) -> Option<usize>
+    ensures { IfSome result (λ n. n ≤ length buf.new) }
 {
     let mut path = [0u8; 4_096];
-    match rt.arg(i, &mut path) {
-        Ok(0) => {
-            complain(rt, what, b"the argument is empty");
-            unread()
+    match argument(rt, i, &mut path) {
+        Ok(n) => read_path(rt, &path[..n], buf),
+        Err(trouble) => {
+            say(rt, what, trouble);
+            None
         }
-        Ok(n) => open_and_load(rt, &path[..n], buf),
-        Err(error) => {
-            fail(rt, what, argument_error(error));
-            unread()
+    }
+}
+
+fn read_path(rt: &HostRuntime, path: &[u8], buf: &mut [u8]) -> Option<usize>
+    ensures { IfSome result (λ n. n ≤ length buf.new) }
+{
+    match load(rt, path, buf) {
+        Ok(count) => Some(count),
+        Err(trouble) => {
+            say(rt, path, trouble);
+            None
         }
     }
 }
@@ -142,65 +151,54 @@ fn print_from(
     tree: &[u8],
     offsets: &[u8],
     from: usize,
-) -> bool {
+) -> io::Result<bool> {
     let mut out = [0u8; PART];
     let count = report_text::report_from(description, footer, tree, offsets, from, &mut out);
     if count <= from {
-        return false;
+        return Ok(false);
     }
-    let n = answers::lesser(count - from, PART);
-    match rt.stdout().write_all(&out[0..n]) {
-        Ok(()) => true,
-        Err(error) => {
-            fail(rt, b"standard output", error);
-            false
-        }
-    }
+    let n = (count - from).min(PART);
+    rt.stdout().write_all(&out[..n])?;
+    Ok(true)
 }
 
 // The text part by part. `report_from` promises that no text has more than 11.
-fn print_report(rt: &HostRuntime, description: &[u8], footer: &[u8], tree: &[u8], offsets: &[u8]) {
-    let mut part: usize = 0;
-    while part < 11 {
-        if !print_from(rt, description, footer, tree, offsets, part * PART) {
-            return;
+fn print_report(
+    rt: &HostRuntime,
+    description: &[u8],
+    footer: &[u8],
+    tree: &[u8],
+    offsets: &[u8],
+) -> io::Result<()> {
+    for part in 0..11 {
+        if !print_from(rt, description, footer, tree, offsets, part * PART)? {
+            break;
         }
-        part += 1;
     }
+    Ok(())
 }
 
-// The other two files, and the report.
-fn run_with(rt: &HostRuntime, description: &[u8], footer: &[u8]) {
-    let mut tree = file_buffer();
-    let c = read_file(rt, 3, b"TREE", &mut tree);
-    if !c.read {
-        return;
-    }
-    let mut offsets = file_buffer();
-    let d = read_file(rt, 4, b"OFFSETS", &mut offsets);
-    if !d.read {
-        return;
-    }
-    let k = c.count;
-    let l = d.count;
-    print_report(rt, description, footer, &tree[0..k], &offsets[0..l]);
-}
-
-// All four files.
-fn run(rt: &HostRuntime) {
+// All four files, and the report of them. Where a file is not read, a line has said why.
+fn run(rt: &HostRuntime) -> Option<()> {
     let mut description = file_buffer();
-    let a = read_file(rt, 1, b"DESCRIPTION", &mut description);
-    if !a.read {
-        return;
-    }
+    let a = read_file(rt, 1, b"DESCRIPTION", &mut description)?;
     let mut footer = file_buffer();
-    let b = read_file(rt, 2, b"FOOTER", &mut footer);
-    if !b.read {
-        return;
+    let b = read_file(rt, 2, b"FOOTER", &mut footer)?;
+    let mut tree = file_buffer();
+    let c = read_file(rt, 3, b"TREE", &mut tree)?;
+    let mut offsets = file_buffer();
+    let d = read_file(rt, 4, b"OFFSETS", &mut offsets)?;
+    let printed = print_report(
+        rt,
+        &description[..a],
+        &footer[..b],
+        &tree[..c],
+        &offsets[..d],
+    );
+    if let Err(error) = printed {
+        fail(rt, b"standard output", error);
     }
-    let i = a.count;
-    let j = b.count;
-    run_with(rt, &description[0..i], &footer[0..j]);
+    Some(())
 }
 
 // Whether there is an argument of that number. Number 0 is the program's name.
@@ -222,5 +220,5 @@ fn main(rt: HostRuntime) {
         complain(&rt, &extra[..n], b"one argument too many");
         return;
     }
-    run(&rt);
+    let _ = run(&rt);
 }

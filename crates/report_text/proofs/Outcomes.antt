@@ -2,7 +2,8 @@
 -- else the listing, whose tiles are those that the query laid at the start of the buffer.
 -- Assumes nothing.
 use mathlib.Core.Path.{◌≡◌, refl, ap, sym, ◌∙◌}
-use mathlib.Core.Bool.{Bool, true, false, not, ◌||◌, cond}
+use Rattle.std.specs.Prelude.{◌≢◌, Result, Ok, Err, Some, None}
+use mathlib.Core.Bool.{Bool, true, false, ◌||◌, cond}
 use mathlib.Core.List.{List, [], ◌++◌}
 use Prim.Native.Nat.{ℕ, ◌≤◌, ◌<◌}
 use native.Mathlib.Nat.{mul-le-mul_right}
@@ -14,7 +15,7 @@ use borrow.Author.Tests.{eq-eqb, ne_eqb, eqb-true, ltb-false}
 use Rattle.answers.specs.Laid.{laid}
 use Rattle.answers.specs.Refusals as refusals
 use Rattle.answers.specs.declared.Refusal.{Refusal}
-use Rattle.answers.proofs.Checks.{past, stop, past-check, stop-check, ended}
+use Rattle.answers.proofs.Checks.{past, stop, ended}
 use Rattle.answers.proofs.Laid.{sets-whole}
 use Rattle.answers.proofs.Runs.{over-ext}
 use Rattle.description.specs.declared.Description.{Description}
@@ -35,10 +36,12 @@ use Rattle.decimal.proofs.Put.{put-fits}
 use Rattle.text.specs.Code.Places.{Wrote}
 use Rattle.text.proofs.Writing.{seen-laid}
 use Rattle.report_text.specs.declared.Asked.{Asked}
-use Rattle.report_text.specs.declared.Outcome.{Outcome}
+use Rattle.report_text.specs.declared.Listing.{Listing}
+use Rattle.report_text.specs.declared.Unlisted.{Unlisted}
+use Rattle.report_text.specs.declared.Unlisted.TheVariants.{TooLong, Refused}
 use Rattle.report_text.specs.Asked.{asked_of}
-use Rattle.report_text.specs.Text.{most_bytes, is_long, opened, answered, offsets_listed, the_last_cells, tile_text, tiles_text, listing_text, report_refusal, answer_text, report_text}
-use Rattle.report_text.specs.Code.Writing.{most_found, outcome_text, Ended, Renders}
+use Rattle.report_text.specs.Text.{most_bytes, is_long, opened, answered, offsets_listed, the_last_cells, tile_text, tiles_text, listing_text, files_refusal, asked_text, report_refusal, answer_text, report_text}
+use Rattle.report_text.specs.Code.Writing.{most_found, unlisted_text, outcome_text, Renders}
 
 -- a query's answer
 module _ (d : Description) (n : ℕ) (tree : List ℕ) (w : Window) where
@@ -76,6 +79,10 @@ module _ (d : Description) (n : ℕ) (tree : List ℕ) (w : Window) where
           mul-le-mul_right n p.described.some_bytes,
         )
 
+-- what a call refuses with
+abbrev Stops : ℕ → ℕ → Unlisted → Type 0
+Stops number place e = (number ≢ 0) × (e ≡ Refused (record { number = number; place = place }))
+
 -- what is laid over a long enough buffer can be read back
 module _ (xs out : List ℕ) (room : length xs ≤ length out) where
   laid-there : length xs ≤ length (laid xs out)
@@ -91,58 +98,48 @@ module _ (xs out : List ℕ) (room : length xs ≤ length out) where
       (λ i a b. ap (λ (x : ℕ). tile_text n last c S offsets x) (laid-at i (omega arith)))
 
 module _ (a : Asked) (footer tree offsets : List ℕ) where
-  abbrev Rendered : List ℕ → Outcome → Type 0
-  Rendered tiles r = Renders (answer_text a footer tree offsets) offsets tiles r
+  abbrev Rendered : List ℕ → Result Listing Unlisted → Type 0
+  Rendered tiles r = Renders (asked_text a footer tree offsets) offsets tiles r
 
   -- a refusal
-  refused : (tiles : List ℕ) {r : Outcome} (number place : ℕ) → (number ≡ 0 → ⊥)
-      → report_refusal a footer tree offsets ≡ refusals.refusal number place → Ended false number place r → Rendered tiles r
-  unfolding outcome_text answer_text
-  refused tiles number place some e f =
-      record {
-        few = omega (arith, f.none_found);
-        there = omega (arith, f.none_found);
-        same = rw (e, f.as_long, f.as_number, f.as_place, ne_eqb number 0 some);
-      }
+  stopped : (tiles : List ℕ) {e : Unlisted} {r : Refusal} → (r.number ≡ 0 → ⊥)
+      → files_refusal a footer tree offsets ≡ r → e ≡ Refused r → Rendered tiles (Err e)
+  unfolding outcome_text unlisted_text asked_text
+  stopped tiles {r = r} some same is = rw is (record {
+    there = tt;
+    same = rw (same, ne_eqb r.number 0 some);
+  })
 
-  pub renders-bad : (tiles : List ℕ) {r : Outcome} → a.good ≡ false → Ended false 1 0 r → Rendered tiles r
-  unfolding report_refusal
-  renders-bad tiles bad e =
-      refused tiles 1 0 (λ z. omega arith) (stop-check (not a.good) 1 0 _ (rw bad) (omega arith)) e
-
-  module _ (good : a.good ≡ true) {o : Opened} (eo : o ≡ opened a footer tree) where
-    pub renders-open : (tiles : List ℕ) {r : Outcome} → (o.number ≡ 0 → ⊥) → Ended false o.number o.place r → Rendered tiles r
-    unfolding report_refusal
-    renders-open tiles some e =
-        refused tiles _ _ (rw eo at some) (past-check (not a.good) 1 0 _ (rw good) ∙ stop _ _ (rw eo at some)) (rw eo at e)
+  module _ {o : Opened} (eo : o ≡ opened a footer tree) where
+    pub renders-open : (tiles : List ℕ) {e : Unlisted} → Stops o.number o.place e → Rendered tiles (Err e)
+    unfolding files_refusal
+    renders-open tiles s =
+        stopped tiles (rw eo at s.0) (stop _ _ (rw eo at s.0)) (rw eo at s.1)
 
     module _ (zo : o.number ≡ 0) {l : TileOffsets} (el : l ≡ offsets_listed a footer tree offsets) where
-      pub renders-offsets : (tiles : List ℕ) {r : Outcome} → (l.number ≡ 0 → ⊥) → Ended false l.number l.place r → Rendered tiles r
-      unfolding report_refusal
-      renders-offsets tiles some e =
-          refused tiles _ _ (rw el at some)
-          (past-check (not a.good) 1 0 _ (rw good) ∙ past _ _ (rw eo at zo) ∙ stop _ _ (rw el at some)) (rw el at e)
+      pub renders-offsets : (tiles : List ℕ) {e : Unlisted} → Stops l.number l.place e → Rendered tiles (Err e)
+      unfolding files_refusal
+      renders-offsets tiles s =
+          stopped tiles (rw el at s.0)
+          (past _ _ (rw eo at zo) ∙ stop _ _ (rw el at s.0)) (rw el at s.1)
 
       module _ (zl : l.number ≡ 0) {q : Answer} (eq : q ≡ answered a footer tree) where
-        pub renders-query : (tiles : List ℕ) {r : Outcome} → (q.number ≡ 0 → ⊥) → Ended false q.number q.place r → Rendered tiles r
-        unfolding report_refusal
-        renders-query tiles some e =
-            refused tiles _ _ (rw eq at some)
-            (past-check (not a.good) 1 0 _ (rw good) ∙ past _ _ (rw eo at zo) ∙ past _ _ (rw el at zl) ∙ stop _ _ (rw eq at some)) (rw eq at e)
+        pub renders-query : (tiles : List ℕ) {e : Unlisted} → Stops q.number q.place e → Rendered tiles (Err e)
+        unfolding files_refusal
+        renders-query tiles s =
+            stopped tiles (rw eq at s.0)
+            (past _ _ (rw eo at zo) ∙ past _ _ (rw el at zl) ∙ stop _ _ (rw eq at s.0)) (rw eq at s.1)
 
         module _ (zq : q.number ≡ 0) where
-          nothing-refused : (report_refusal a footer tree offsets).number ≡ 0
-          unfolding report_refusal
+          nothing-refused : (files_refusal a footer tree offsets).number ≡ 0
+          unfolding files_refusal
           nothing-refused =
               ap (λ (x : Refusal). x.number)
-              (past-check (not a.good) 1 0 _ (rw good) ∙ past _ _ (rw eo at zo) ∙ past _ _ (rw el at zl) ∙ past _ _ (rw eq at zq) ∙ ended)
+              (past _ _ (rw eo at zo) ∙ past _ _ (rw el at zl) ∙ past _ _ (rw eq at zq) ∙ ended)
 
           -- the listing
-          abbrev pub listing : Outcome
+          abbrev pub listing : Listing
           listing = record {
-            long = false;
-            number = 0;
-            place = 0;
             tiles = (opened a footer tree).tiles;
             last_cells = the_last_cells a footer tree;
             capacity = a.description.capacity;
@@ -151,10 +148,10 @@ module _ (a : Asked) (footer tree offsets : List ℕ) where
             looked = (answered a footer tree).looked;
           }
 
-          pub renders-listing : (before after : List ℕ) {r : Outcome} → length tree ≤ most_bytes → most_found ≤ length before
+          pub renders-listing : (before after : List ℕ) {r : Listing} → length tree ≤ most_bytes → most_found ≤ length before
               → after ≡ query_buffer a.description (opened a footer tree).tiles tree a.window before
-              → r ≡ listing → Rendered after r
-          unfolding outcome_text listing_text answer_text
+              → r ≡ listing → Rendered after (Ok r)
+          unfolding outcome_text listing_text asked_text
           renders-listing before after short room e f =
               let d = a.description in
               let n = (opened a footer tree).tiles in
@@ -164,18 +161,17 @@ module _ (a : Asked) (footer tree offsets : List ℕ) where
               let count = query-found d n tree a.window clear in
               let there : length found ≤ length before = omega arith in
               rw (f, e, query-laid d n tree a.window clear before) (record {
-                few = rw count few;
-                there = rw count (laid-there found before there);
+                there = record { few = rw count few; there = rw count (laid-there found before there) };
                 same =
                     rw (count, eq-eqb _ 0 nothing-refused, tiles-same found before there n (the_last_cells a footer tree) d.capacity a.data_size offsets);
               })
 
 -- the files
 module _ (description footer tree offsets : List ℕ) where
-  pub renders-long : (tiles : List ℕ) {r : Outcome} → is_long description footer tree offsets ≡ true → Ended true 0 0 r
-      → Renders (report_text description footer tree offsets) offsets tiles r
-  unfolding outcome_text report_text
-  renders-long tiles h e = record { few = omega (arith, e.none_found); there = omega (arith, e.none_found); same = rw (h, e.as_long) }
+  pub renders-long : (tiles : List ℕ) → is_long description footer tree offsets ≡ true
+      → Renders (report_text description footer tree offsets) offsets tiles (Err TooLong)
+  unfolding outcome_text unlisted_text report_text
+  renders-long tiles h = record { there = tt; same = rw h }
 
   module _ (short : is_long description footer tree offsets ≡ false) where
     pub tree-short : length tree ≤ most_bytes
@@ -185,13 +181,18 @@ module _ (description footer tree offsets : List ℕ) where
         let a = neither (f || t) (ltb most_bytes (length offsets)) short in
         ltb-false most_bytes (length tree) (neither f t a.0).1
 
-    pub renders-answer : (tiles : List ℕ) {r : Outcome} {a : Asked} → a ≡ asked_of description
-        → Renders (answer_text a footer tree offsets) offsets tiles r → Renders (report_text description footer tree offsets) offsets tiles r
-    unfolding report_text
-    renders-answer tiles e h = record { few = h.few; there = h.there; same = h.same ∙ rw (short, e) }
+    pub renders-bad : (tiles : List ℕ) {r : Refusal} → r ≡ refusals.refusal refusals.description 0 → None ≡ asked_of description
+        → Renders (report_text description footer tree offsets) offsets tiles (Err (Refused r))
+    unfolding outcome_text unlisted_text report_refusal answer_text report_text
+    renders-bad tiles e n = rw e (record { there = tt; same = rw (short, ← n) })
+
+    pub renders-asked : (tiles : List ℕ) {r : Result Listing Unlisted} {a : Asked} → Some a ≡ asked_of description
+        → Renders (asked_text a footer tree offsets) offsets tiles r → Renders (report_text description footer tree offsets) offsets tiles r
+    unfolding answer_text report_text
+    renders-asked tiles e h = record { there = h.there; same = h.same ∙ rw (short, ← e) }
 
 -- what is written is that text
-module _ (text : List ℕ) {offsets tiles : List ℕ} {r : Outcome} (t : Renders text offsets tiles r) {from : ℕ} {before after : List ℕ} {count : ℕ}
+module _ (text : List ℕ) {offsets tiles : List ℕ} {r : Result Listing Unlisted} (t : Renders text offsets tiles r) {from : ℕ} {before after : List ℕ} {count : ℕ}
     (w : Wrote from before 0 (outcome_text r offsets tiles) after count) where
   pub counted : count ≡ length text
   counted = omega (arith, w.place, ap length t.same)

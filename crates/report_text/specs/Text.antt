@@ -1,9 +1,9 @@
 -- What does the report say, as a text of bytes?
 -- Assumes nothing.
-use Rattle.std.specs.Prelude.{ℕ, Bool, not, ◌||◌, cond, List, [], ◌∷◌, ◌++◌, ltb, eqb, length, get_or}
+use Rattle.std.specs.Prelude.{ℕ, Bool, ◌||◌, cond, List, [], ◌∷◌, ◌++◌, ltb, eqb, length, get_or, Option, Some, None}
 use Rattle.answers.specs.Refusals as refusals
 use Rattle.answers.specs.Runs.{join}
-use Rattle.answers.specs.Checks.{check, first}
+use Rattle.answers.specs.Checks.{first}
 use Rattle.answers.specs.declared.Refusal.{Refusal}
 use Rattle.footer.specs.Answer.{checked_answer, cells_of}
 use Rattle.lists.specs.declared.TileOffsets.{TileOffsets}
@@ -86,11 +86,10 @@ module _ (a : Asked) (footer tree offsets : List ℕ) where
   abbrev pub offsets_listed : TileOffsets
   offsets_listed = offsets_answer (opened a footer tree).tiles a.data_size offsets
 
-  -- the first of these that refuses: the description file, opening, the offsets, the query
-  unfoldable pub report_refusal : Refusal
-  report_refusal = first (
-      check (not a.good) refusals.description 0
-      ∷ refusals.refusal (opened a footer tree).number (opened a footer tree).place
+  -- the first of these that refuses: opening, the offsets, the query
+  unfoldable pub files_refusal : Refusal
+  files_refusal = first (
+      refusals.refusal (opened a footer tree).number (opened a footer tree).place
       ∷ refusals.refusal offsets_listed.number offsets_listed.place
       ∷ refusals.refusal (answered a footer tree).number (answered a footer tree).place
       ∷ []
@@ -104,9 +103,19 @@ module _ (a : Asked) (footer tree offsets : List ℕ) where
       offsets (found_tiles a footer tree) (length (found_tiles a footer tree))
 
   -- the refusal, or else the listing
-  unfoldable pub answer_text : List ℕ
-  answer_text =
-      cond (eqb report_refusal.number 0) listing_text (refused_text report_refusal.number report_refusal.place)
+  unfoldable pub asked_text : List ℕ
+  asked_text = cond (eqb files_refusal.number 0) listing_text (refused_text files_refusal.number files_refusal.place)
+
+-- the first of these that refuses: the description file, where it does not say what it has to, and then those
+unfoldable pub report_refusal : Option Asked → List ℕ → List ℕ → List ℕ → Refusal
+report_refusal None footer tree offsets = refusals.refusal refusals.description 0
+report_refusal (Some a) footer tree offsets = files_refusal a footer tree offsets
+
+-- the text of that refusal, or else the listing
+unfoldable pub answer_text : Option Asked → List ℕ → List ℕ → List ℕ → List ℕ
+answer_text None footer tree offsets =
+    let r = report_refusal None footer tree offsets in refused_text r.number r.place
+answer_text (Some a) footer tree offsets = asked_text a footer tree offsets
 
 module _ (description footer tree offsets : List ℕ) where
   abbrev pub is_long : Bool

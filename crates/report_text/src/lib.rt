@@ -1,21 +1,23 @@
 // The report: what a window finds in a fragment, as a text. From lent bytes to lent bytes.
 #![tactic(auto)]
 
-ghost use Rattle.std.specs.Prelude.{◌≡◌, ℕ, ◌+◌, ◌≤◌, length, drop};
+ghost use Rattle.std.specs.Prelude.{◌≡◌, ◌≢◌, ℕ, ◌+◌, ◌≤◌, List, length, drop, cond, Some, None, IfOk, IfErr, OnOk};
 ghost use Rattle.answers.specs.Laid.{laid};
 ghost use Rattle.answers.specs.Runs.{filled};
+ghost use Rattle.decimal.specs.Read.{read_number};
 ghost use Rattle.decimal.specs.Write.{put};
 ghost use Rattle.text.specs.Write.{field};
-ghost use Rattle.text.specs.Code.Places.{AtLine, Wrote};
-ghost use Rattle.report_text.specs.Asked.{dimension_of, bits_at, asked_of};
+ghost use Rattle.text.specs.Text.{line_at};
+ghost use Rattle.text.specs.Code.Places.{Wrote};
+ghost use Rattle.report_text.specs.Asked.{is_width, dimension_of, bits_at, asked_of};
 ghost use Rattle.report_text.specs.Text.{most_bytes, most_text, piece, refused_text, header_text, row_text};
-ghost use Rattle.report_text.specs.Text.{tile_text, answer_text, report_text};
-ghost use Rattle.report_text.specs.Code.Reading.{ReadLine, ReadSide, ReadWidths, ReadWindow};
-ghost use Rattle.report_text.specs.Code.Writing.{most_written, most_found, Ended, listed};
-ghost use Rattle.report_text.specs.Code.Writing.{outcome_text, Renders};
+ghost use Rattle.report_text.specs.Text.{tile_text, is_long, asked_text, report_text};
+ghost use Rattle.report_text.specs.Code.Reading.{Next, side_read, KindsRead, SidesRead};
+ghost use Rattle.report_text.specs.Code.Writing.{most_written, most_found, listed, Holds, Puts};
+ghost use Rattle.report_text.specs.Code.Writing.{unlisted_text, outcome_text, Renders};
 
+use answers::{Reason, Refusal};
 use boxes::{Side, Window};
-use decimal::Number;
 use description::{Description, Dimension, Kind};
 
 // Answers the length of the text. It stands at the start of the buffer if all of it fits there; else the buffer stays
@@ -67,13 +69,9 @@ pub fn report_from(
 
 const MOST_BYTES: usize = 65_536;
 
-// What comes of it: `long` where a file is too long, else the number and place of a refusal, else what the listing goes
-// by.
+// What the listing goes by.
 #[derive(Clone, Copy)]
-struct Outcome {
-    long: bool,
-    number: u64,
-    place: u64,
+struct Listing {
     tiles: u64,
     last_cells: u64,
     capacity: u64,
@@ -82,27 +80,41 @@ struct Outcome {
     looked: u64,
 }
 
+// Why nothing is listed.
+#[derive(Clone, Copy)]
+enum Unlisted {
+    TooLong,
+    Refused(Refusal),
+}
+
+fn any_long(description: &[u8], footer: &[u8], tree: &[u8], offsets: &[u8]) -> bool
+    ensures { result ≡ is_long description.now footer.now tree.now offsets.now }
+{
+    MOST_BYTES < description.len()
+        || MOST_BYTES < footer.len()
+        || MOST_BYTES < tree.len()
+        || MOST_BYTES < offsets.len()
+}
+
 fn work_out(
     description: &[u8],
     footer: &[u8],
     tree: &[u8],
     offsets: &[u8],
     tiles: &mut [u32],
-) -> Outcome
+) -> Result<Listing, Unlisted>
     requires { most_found ≤ length tiles.old }
     ensures { Renders
         (report_text description.now footer.now tree.now offsets.now)
         offsets.now tiles.new result }
 {
-    if (MOST_BYTES < description.len())
-        | (MOST_BYTES < footer.len())
-        | (MOST_BYTES < tree.len())
-        | (MOST_BYTES < offsets.len())
-    {
-        return ended(true, 0, 0);
+    if any_long(description, footer, tree, offsets) {
+        return Err(Unlisted::TooLong);
     }
-    let asked = read_asked(description);
-    open_and_query(asked, footer, tree, offsets, tiles)
+    match read_asked(description) {
+        Some(asked) => open_and_query(asked, footer, tree, offsets, tiles),
+        None => Err(Unlisted::Refused(Refusal::from(Err(Reason::Description.at(0))))),
+    }
 }
 
 // Opening, the offsets, the query: the first that refuses ends it.
@@ -112,337 +124,287 @@ fn open_and_query(
     tree: &[u8],
     offsets: &[u8],
     tiles: &mut [u32],
-) -> Outcome
+) -> Result<Listing, Unlisted>
     requires { (length tree.now ≤ most_bytes) × (most_found ≤ length tiles.old) }
-    ensures { Renders (answer_text asked footer.now tree.now offsets.now)
+    ensures { Renders (asked_text asked footer.now tree.now offsets.now)
         offsets.now tiles.new result }
 {
-    if !asked.good {
-        return ended(false, 1, 0);
-    }
     let description = asked.description;
     let opened = opening::open(description, asked.file_size, footer, tree);
-    if opened.number != 0 {
-        return ended(false, opened.number, opened.place);
-    }
+    pass(opened.number, opened.place)?;
     let listed = entries::open_offsets(offsets, opened.tiles, asked.data_size);
-    if listed.number != 0 {
-        return ended(false, listed.number, listed.place);
-    }
+    pass(listed.number, listed.place)?;
     let answer = query::query(description, opened.tiles, tree, asked.window, tiles);
-    if answer.number != 0 {
-        return ended(false, answer.number, answer.place);
-    }
+    pass(answer.number, answer.place)?;
     let checked = footer::check(description, asked.file_size, footer);
-    Outcome {
-        long: false,
-        number: 0,
-        place: 0,
+    Ok(Listing {
         tiles: opened.tiles,
         last_cells: checked.last_cells,
         capacity: description.capacity,
         data_size: asked.data_size,
         found: answer.found,
         looked: answer.looked,
-    }
+    })
 }
 
-// Nothing is listed.
-fn ended(long: bool, number: u64, place: u64) -> Outcome
-    ensures { Ended long number place result }
+// Go on unless it refuses.
+fn pass(number: u64, place: u64) -> Result<(), Unlisted>
+    ensures ok { OnOk result (number ≡ 0) }
+    ensures err { IfErr result (λ e. (number ≢ 0)
+        × (e ≡ Unlisted.Refused (record { number = number; place = place }))) }
 {
-    Outcome {
-        long: long,
-        number: number,
-        place: place,
-        tiles: 0,
-        last_cells: 0,
-        capacity: 0,
-        data_size: 0,
-        found: 0,
-        looked: 0,
+    if number == 0 {
+        Ok(())
+    } else {
+        Err(Unlisted::Refused(Refusal { number, place }))
     }
 }
 
-// What the description file says: `good` where every line of it is what it has to be.
+// What the description file says.
 #[derive(Clone, Copy)]
 struct Asked {
-    good: bool,
     description: Description,
     file_size: u64,
     data_size: u64,
     window: Window,
 }
 
-// The file is read once, line after line: what reads a line says where the next one starts.
-fn read_asked(text: &[u8]) -> Asked
+// Every line of the file is what it has to be, and no more follow.
+fn read_asked(text: &[u8]) -> Option<Asked>
     ensures { result ≡ asked_of text.now }
 {
-    let first = read_line(text, 0, Description::MOST_DIMENSIONS);
-    let dimensions = first.number.value;
+    let mut lines = Lines { text, at: 0 };
+    let dimensions = lines.number(Description::MOST_DIMENSIONS)?;
     let d = dimensions as usize;
-    let widths = read_widths(text, first.next, d);
-    let kinds = widths.kinds;
-    let fields = read_line(text, widths.next, MOST_NUMBER);
-    let capacity = read_line(text, fields.next, MOST_NUMBER);
-    let file_size = read_line(text, capacity.next, MOST_NUMBER);
-    let data_size = read_line(text, file_size.next, MOST_NUMBER);
-    let lines = read_window(text, data_size.next, d, kinds);
-    let sides = lines.sides;
-    let description = Description {
-        dimensions: dimensions,
-        kinds: kinds,
-        fields: fields.number.value,
-        capacity: capacity.number.value,
-    };
-    let refusal = description.check();
-    Asked {
-        good: (refusal.number == 0)
-            & widths.good
-            & file_size.number.read
-            & data_size.number.read
-            & lines.good
-            & (text.len() <= lines.next),
-        description: description,
-        file_size: file_size.number.value,
-        data_size: data_size.number.value,
-        window: Window {
-            dimensions: dimensions,
-            sides: sides,
-        },
+    let kinds = read_kinds(&mut lines, d)?;
+    let fields = lines.number(u64::MAX)?;
+    let capacity = lines.number(u64::MAX)?;
+    let file_size = lines.number(u64::MAX)?;
+    let data_size = lines.number(u64::MAX)?;
+    let sides = read_window(&mut lines, d, kinds)?;
+    if lines.at < text.len() {
+        return None;
     }
+    let description = Description {
+        dimensions,
+        kinds,
+        fields,
+        capacity,
+    };
+    if description.check().is_err() {
+        return None;
+    }
+    Some(Asked {
+        description,
+        file_size,
+        data_size,
+        window: Window { dimensions, sides },
+    })
 }
 
-const MOST_NUMBER: u64 = 0xffff_ffff_ffff_ffff;
-
-#[derive(Clone, Copy)]
-struct Line {
-    number: Number,
-    next: usize,
+// A text that is read line after line: the next one starts at `at`.
+#[derive(Drop)]
+struct Lines<'a> {
+    text: &'a [u8],
+    at: usize,
 }
 
-fn read_line(text: &[u8], at: usize, most: u64) -> Line
-    ensures { (k : ℕ) → AtLine text.now k at → ReadLine text.now k most result }
-{
-    let line = text::piece_from(text, at, b'\n');
-    let number = decimal::read_at_most(line, most);
-    let next = text::after(text, at + line.len());
-    Line { number, next }
+impl<'a> Lines<'a> {
+    fn next(&mut self) -> &'a [u8]
+        ensures { (t : List ℕ) → (k : ℕ) → Next t k self.old
+            → (result.now ≡ line_at k t) × Next t (k + 1) self.new }
+    {
+        let line = text::piece_from(self.text, self.at, b'\n');
+        self.at = text::after(self.text, self.at + line.len());
+        line
+    }
+
+    fn number(&mut self, most: u64) -> Option<u64>
+        ensures { (t : List ℕ) → (k : ℕ) → Next t k self.old
+            → (result ≡ read_number most (line_at k t)) × Next t (k + 1) self.new }
+    {
+        let line = self.next();
+        decimal::read_at_most(line, most)
+    }
+
+    // A minimum and a maximum.
+    fn side(&mut self, kind: Kind) -> Option<Side>
+        ensures { (t : List ℕ) → (k : ℕ) → Next t k self.old
+            → (result ≡ side_read t k kind) × Next t (k + 2) self.new }
+    {
+        let minimum = self.next();
+        let maximum = self.next();
+        let range = range_text::read_range(kind, minimum, maximum)?;
+        Some(Side { range })
+    }
 }
 
 // The lines of the kinds. A place past D has 64 bits.
-#[derive(Clone, Copy)]
-struct Widths {
-    good: bool,
-    kinds: [Dimension; 4],
-    next: usize,
-}
-
-fn read_widths(text: &[u8], at: usize, d: usize) -> Widths
-    requires { (AtLine text.now 1 at) × (d ≤ 4) }
-    ensures { ReadWidths text.now d result }
+fn read_kinds<'a>(lines: &mut Lines<'a>, d: usize) -> Option<[Dimension; 4]>
+    requires { d ≤ 4 }
+    ensures { (t : List ℕ) → Next t 1 lines.old → KindsRead t d result lines.new }
 {
-    let wide = dimension_of(64);
-    let mut kinds = [wide; 4];
-    let mut good = true;
-    let mut next = at;
-    let mut i: usize = 0;
-    while i < d {
-        let line = read_line(text, next, MOST_NUMBER);
-        let width = line.number.value;
-        kinds[i] = dimension_of(width);
-        good = good & ((width == 32) | (width == 64));
-        next = line.next;
-        i += 1;
+    let mut kinds = [Dimension { kind: Kind::Int64 }; 4];
+    for i in 0..d {
+        let bits = lines.number(u64::MAX)?;
+        kinds[i] = dimension_of(bits)?;
     }
-    Widths {
-        good: good,
-        kinds: kinds,
-        next: next,
-    }
+    Some(kinds)
 }
 
-fn dimension_of(bits: u64) -> Dimension
-    ensures { result ≡ dimension_of bits }
+// An integer kind has 32 or 64 bits.
+fn dimension_of(bits: u64) -> Option<Dimension>
+    ensures { result ≡ cond (is_width bits) (Some (dimension_of bits)) None }
 {
-    if bits == 64 {
-        Dimension { kind: Kind::Int64 }
-    } else {
-        Dimension { kind: Kind::Int32 }
-    }
-}
-
-// The two lines of a side of the window.
-#[derive(Clone, Copy)]
-struct SideLines {
-    good: bool,
-    side: Side,
-    next: usize,
-}
-
-fn read_side(text: &[u8], at: usize, kind: Kind) -> SideLines
-    ensures { (k : ℕ) → AtLine text.now k at → ReadSide text.now k kind result }
-{
-    let minimum = text::piece_from(text, at, b'\n');
-    let start = text::after(text, at + minimum.len());
-    let maximum = text::piece_from(text, start, b'\n');
-    let next = text::after(text, start + maximum.len());
-    let read = range_text::read_range(kind, minimum, maximum);
-    let range = read.range;
-    SideLines {
-        good: read.read,
-        side: Side { range },
-        next,
+    match bits {
+        32 => Some(Dimension { kind: Kind::Int32 }),
+        64 => Some(Dimension { kind: Kind::Int64 }),
+        _ => None,
     }
 }
 
 // The lines of the window. A place past D has the range that no dimension has.
-#[derive(Clone, Copy)]
-struct WindowLines {
-    good: bool,
-    sides: [Side; 4],
-    next: usize,
-}
-
-fn read_window(text: &[u8], at: usize, d: usize, kinds: [Dimension; 4]) -> WindowLines
-    requires { (AtLine text.now (5 + d) at) × (d ≤ 4)
-        × (kinds ≡ filled (λ i. dimension_of (bits_at text.now i)) (dimension_of 64) d 4) }
-    ensures { ReadWindow text.now d d result }
+fn read_window<'a>(lines: &mut Lines<'a>, d: usize, kinds: [Dimension; 4]) -> Option<[Side; 4]>
+    requires { d ≤ 4 }
+    ensures { (t : List ℕ) → Next t (5 + d) lines.old
+        → kinds ≡ filled (λ i. dimension_of (bits_at t i)) (dimension_of 64) d 4
+        → SidesRead t d result lines.new }
 {
     let mut sides = boxes::no_box();
-    let mut good = true;
-    let mut next = at;
-    let mut i: usize = 0;
-    while i < d {
-        let dimension = kinds[i];
-        let kind = dimension.kind;
-        let lines = read_side(text, next, kind);
-        let side = lines.side;
-        sides[i] = side;
-        good = good & lines.good;
-        next = lines.next;
-        i += 1;
+    for i in 0..d {
+        sides[i] = lines.side(kinds[i].kind)?;
     }
-    WindowLines {
-        good: good,
-        sides: sides,
-        next: next,
-    }
+    Some(sides)
 }
 
-// What is written goes to a place of the text. The buffer has the text from byte `from` on, as many bytes as fit. The
-// answer is where the next goes.
-
-// A number, and the byte after it.
-fn write_field(n: u64, end: u8, from: usize, out: &mut [u8], at: usize) -> usize
-    requires { at + 21 ≤ most_written }
-    ensures { (Wrote from out.old at (field n end) out.new result) × (result ≤ at + 21) }
-{
-    at + text::write_field(n, end, from, out, at)
-}
-
-fn write_piece(word: &[u8], n: u64, end: u8, from: usize, out: &mut [u8], at: usize) -> usize
-    requires { at + length word.now + 21 ≤ most_written }
-    ensures { (Wrote from out.old at (piece word.now n end) out.new result)
-        × (result ≤ at + length word.now + 21) }
-{
-    let next = at + text::write(word, from, out, at);
-    write_field(n, end, from, out, next)
-}
-
-fn write_refused(number: u64, place: u64, from: usize, out: &mut [u8]) -> usize
-    ensures { (Wrote from out.old 0 (refused_text number place) out.new result) × (result ≤ 84) }
-{
-    let next = write_piece(b"refused\t", number, b'\t', from, out, 0);
-    write_field(place, b'\n', from, out, next)
-}
-
-fn write_header(tiles: u64, found: u64, looked: u64, from: usize, out: &mut [u8]) -> usize
-    ensures { (Wrote from out.old 0 (header_text tiles found looked) out.new result)
-        × (result ≤ 84) }
-{
-    let first = write_piece(b"tiles\t", tiles, b'\t', from, out, 0);
-    let second = write_piece(b"found\t", found, b'\t', from, out, first);
-    write_piece(b"looked\t", looked, b'\n', from, out, second)
-}
-
-fn write_row(
-    tile: u64,
-    offset: u64,
-    extent: u64,
-    cells: u64,
+// A text that is written piece after piece: the next one goes to place `at`, and the buffer has the bytes from byte
+// `from` on, as many as fit.
+#[derive(Drop)]
+struct Writer<'a> {
     from: usize,
-    out: &mut [u8],
+    out: &'a mut [u8],
     at: usize,
-) -> usize
-    requires { at + 84 ≤ most_written }
-    ensures { (Wrote from out.old at (row_text tile offset extent cells) out.new result)
-        × (result ≤ at + 84) }
-{
-    let first = write_field(tile, b'\t', from, out, at);
-    let second = write_field(offset, b'\t', from, out, first);
-    let third = write_field(extent, b'\t', from, out, second);
-    write_field(cells, b'\n', from, out, third)
 }
 
-// The line of a tile.
-fn write_tile(
-    outcome: Outcome,
-    offsets: &[u8],
-    tile: u64,
-    from: usize,
-    out: &mut [u8],
-    at: usize,
-) -> usize
-    requires { at + 84 ≤ most_written }
-    ensures { (Wrote from out.old at
-        (tile_text outcome.tiles outcome.last_cells outcome.capacity outcome.data_size
-        offsets.now tile) out.new result) × (result ≤ at + 84) }
-{
-    let part = lists::extent_at(offsets, outcome.tiles, outcome.data_size, tile);
-    let cells = cells::cells_at(outcome.tiles, outcome.last_cells, outcome.capacity, tile);
-    write_row(tile, part.offset, part.extent, cells, from, out, at)
-}
-
-// The header, and the line of each tile.
-fn write_listing(
-    outcome: Outcome,
-    offsets: &[u8],
-    tiles: &[u32],
-    from: usize,
-    out: &mut [u8],
-) -> usize
-    requires { (outcome.found ≤ most_found) × (outcome.found ≤ length tiles.now) }
-    ensures { (Wrote from out.old 0
-        (listed outcome offsets.now tiles.now outcome.found) out.new result)
-        × (result ≤ most_text) }
-{
-    let found = outcome.found as usize;
-    let mut at = write_header(outcome.tiles, outcome.found, outcome.looked, from, out);
-    let mut i: usize = 0;
-    while i < found {
-        at = write_tile(outcome, offsets, tiles[i] as u64, from, out, at);
-        i += 1;
+impl<'a> Writer<'a> {
+    fn word(&mut self, word: &[u8])
+        requires { self.old.at + length word.now ≤ most_written }
+        ensures puts { Puts word.now (length word.now) self.old self.new }
+        ensures same { self.new.out.ghost_name ≡ self.old.out.ghost_name }
+    {
+        self.at += text::write(word, self.from, self.out, self.at);
     }
-    at
+
+    // A number, and the byte after it.
+    fn field(&mut self, n: u64, end: u8)
+        requires { self.old.at + 21 ≤ most_written }
+        ensures puts { Puts (field n end) 21 self.old self.new }
+        ensures same { self.new.out.ghost_name ≡ self.old.out.ghost_name }
+    {
+        self.at += text::write_field(n, end, self.from, self.out, self.at);
+    }
+
+    fn piece(&mut self, word: &[u8], n: u64, end: u8)
+        requires { self.old.at + length word.now + 21 ≤ most_written }
+        ensures puts { Puts (piece word.now n end) (length word.now + 21) self.old self.new }
+        ensures same { self.new.out.ghost_name ≡ self.old.out.ghost_name }
+    {
+        self.word(word);
+        self.field(n, end);
+    }
+
+    fn refused(&mut self, refusal: Refusal)
+        requires { self.old.at + 84 ≤ most_written }
+        ensures puts { Puts (refused_text refusal.number refusal.place) 84 self.old self.new }
+        ensures same { self.new.out.ghost_name ≡ self.old.out.ghost_name }
+    {
+        self.piece(b"refused\t", refusal.number, b'\t');
+        self.field(refusal.place, b'\n');
+    }
+
+    fn header(&mut self, tiles: u64, found: u64, looked: u64)
+        requires { self.old.at + 84 ≤ most_written }
+        ensures puts { Puts (header_text tiles found looked) 84 self.old self.new }
+        ensures same { self.new.out.ghost_name ≡ self.old.out.ghost_name }
+    {
+        self.piece(b"tiles\t", tiles, b'\t');
+        self.piece(b"found\t", found, b'\t');
+        self.piece(b"looked\t", looked, b'\n');
+    }
+
+    fn row(&mut self, tile: u64, offset: u64, extent: u64, cells: u64)
+        requires { self.old.at + 84 ≤ most_written }
+        ensures puts { Puts (row_text tile offset extent cells) 84 self.old self.new }
+        ensures same { self.new.out.ghost_name ≡ self.old.out.ghost_name }
+    {
+        self.field(tile, b'\t');
+        self.field(offset, b'\t');
+        self.field(extent, b'\t');
+        self.field(cells, b'\n');
+    }
+
+    // The line of a tile.
+    fn tile(&mut self, listing: Listing, offsets: &[u8], tile: u64)
+        requires { self.old.at + 84 ≤ most_written }
+        ensures puts { Puts (tile_text listing.tiles listing.last_cells listing.capacity
+            listing.data_size offsets.now tile) 84 self.old self.new }
+        ensures same { self.new.out.ghost_name ≡ self.old.out.ghost_name }
+    {
+        let part = lists::extent_at(offsets, listing.tiles, listing.data_size, tile);
+        let cells = cells::cells_at(listing.tiles, listing.last_cells, listing.capacity, tile);
+        self.row(tile, part.offset, part.extent, cells);
+    }
+
+    // The header, and the line of each tile.
+    fn listing(&mut self, listing: Listing, offsets: &[u8], tiles: &[u32])
+        requires { (self.old.at + most_text ≤ most_written) × Holds tiles.now listing }
+        ensures puts { Puts (listed listing offsets.now tiles.now listing.found) most_text
+            self.old self.new }
+        ensures same { self.new.out.ghost_name ≡ self.old.out.ghost_name }
+    {
+        self.header(listing.tiles, listing.found, listing.looked);
+        for tile in &tiles[..listing.found as usize] {
+            self.tile(listing, offsets, u64::from(*tile));
+        }
+    }
+
+    fn unlisted(&mut self, why: Unlisted)
+        requires { self.old.at + 84 ≤ most_written }
+        ensures puts { Puts (unlisted_text why) 84 self.old self.new }
+        ensures same { self.new.out.ghost_name ≡ self.old.out.ghost_name }
+    {
+        match why {
+            Unlisted::TooLong => self.word(b"too long\n"),
+            Unlisted::Refused(refusal) => self.refused(refusal),
+        }
+    }
+
+    fn outcome(&mut self, outcome: Result<Listing, Unlisted>, offsets: &[u8], tiles: &[u32])
+        requires { (self.old.at + most_text ≤ most_written) × IfOk outcome (Holds tiles.now) }
+        ensures puts { Puts (outcome_text outcome offsets.now tiles.now) most_text
+            self.old self.new }
+        ensures same { self.new.out.ghost_name ≡ self.old.out.ghost_name }
+    {
+        match outcome {
+            Ok(listing) => self.listing(listing, offsets, tiles),
+            Err(why) => self.unlisted(why),
+        }
+    }
 }
 
+// The answer is how long the text is.
 fn write_outcome(
-    outcome: Outcome,
+    outcome: Result<Listing, Unlisted>,
     offsets: &[u8],
     tiles: &[u32],
     from: usize,
     out: &mut [u8],
 ) -> usize
-    requires { (outcome.found ≤ most_found) × (outcome.found ≤ length tiles.now) }
+    requires { IfOk outcome (Holds tiles.now) }
     ensures { (Wrote from out.old 0
         (outcome_text outcome offsets.now tiles.now) out.new result) × (result ≤ most_text) }
 {
-    if outcome.long {
-        return text::write(b"too long\n", from, out, 0);
-    }
-    if outcome.number != 0 {
-        return write_refused(outcome.number, outcome.place, from, out);
-    }
-    write_listing(outcome, offsets, tiles, from, out)
+    let mut text = Writer { from, out, at: 0 };
+    text.outcome(outcome, offsets, tiles);
+    text.at
 }

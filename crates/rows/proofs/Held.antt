@@ -10,7 +10,11 @@ use native.Mathlib.Decide.{dec_lt}
 use lib.ListN.{length, get_or, take, drop}
 use native.Mathlib.Omega.{arith}
 use borrow.Author.Tests.{not-true, eqb-true}
+use lib.Ieee.{Float, binary32, binary64, of_bits}
+use Rattle.order.specs.Little.{first_of_two, second_of_two}
 use Rattle.description.specs.declared.Kind.{Kind}
+use Rattle.description.specs.declared.Kind.TheVariants.{Float32, Float64}
+use Rattle.ranges.specs.declared.Range.TheVariants.{F32, F64}
 use Rattle.description.specs.declared.Dimension.{Dimension}
 use Rattle.description.specs.Kinds.{range_bytes, is_infinite, ordered, at_most}
 use Rattle.description.specs.Description.{kind_at, side_start}
@@ -121,3 +125,15 @@ module _ (kinds : List Dimension) (bytes : List ℕ) where
   pub sound-box : (m : ℕ) → side_start kinds m ≤ length bytes → ((j : ℕ) → j < m → is_finite (side_at kinds bytes j) ≡ true) → SoundBox kinds m bytes
   sound-box m whole finite i l =
       (omega (arith, start_up kinds i m l), finite i l)
+
+-- two floats that were read one after the other are a range
+module _ (part : List ℕ) where
+  pub floats32 : {a b : Float} → (a ≡ of_bits binary32 (first_of_two part 0 4)) × (b ≡ of_bits binary32 (second_of_two part 0 4))
+      → F32 a b ≡ range_at Float32 part 0
+  unfolding ends_at
+  floats32 e = λ i. F32 (e.0 i) (e.1 i)
+
+  pub floats64 : {a b : Float} → (a ≡ of_bits binary64 (first_of_two part 0 8)) × (b ≡ of_bits binary64 (second_of_two part 0 8))
+      → F64 a b ≡ range_at Float64 part 0
+  unfolding ends_at
+  floats64 e = λ i. F64 (e.0 i) (e.1 i)

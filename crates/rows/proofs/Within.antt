@@ -1,10 +1,10 @@
 -- A box is without a fault and inside another where each of its dimensions is sound and inside the other's; where that fails, either the ranges
 -- have a fault or the box is not inside. And a row of boxes, as a loop goes through it: the boxes before a place said nothing.
 -- Assumes nothing.
-use mathlib.Core.Path.{◌≡◌, refl, sym, ◌∙◌}
+use mathlib.Core.Path.{◌≡◌, refl, sym, ap, ◌∙◌}
 use mathlib.Core.Bool.{Bool, true, false, true≢false}
 use mathlib.Core.List.{List}
-use Prim.Native.Nat.{ℕ, suc, ◌+◌, ◌-◌, ◌*◌, ◌/◌, ◌≤◌, ◌<◌}
+use Prim.Native.Nat.{ℕ, suc, ◌+◌, ◌-◌, ◌/◌, ◌≤◌, ◌<◌}
 use native.Mathlib.Nat.{le-div_iff_mul-le, div-lt_iff_lt-mul, div-zero, suc-mul}
 use native.Mathlib.Decide.{dec_lt}
 use native.Mathlib.Omega.{arith}
@@ -17,12 +17,13 @@ use Rattle.answers.proofs.Checks.{halt, each-clear, all-clear, none_left, past-l
 use Rattle.description.specs.declared.Dimension.{Dimension}
 use Rattle.description.specs.Description.{kind_at, side_start}
 use Rattle.description.proofs.Tests.{both}
+use Rattle.ranges.specs.declared.Range.{Range}
 use Rattle.ranges.specs.Ranges.{inside}
 use Rattle.verdicts.specs.declared.Verdict.{Verdict}
 use Rattle.verdicts.specs.declared.Verdict.TheVariants.{Sound, Infinite, InfiniteReversed, NotANumber, Reversed}
 use Rattle.verdicts.specs.Verdicts.{verdict_at, stored_refusal}
 use Rattle.boxes.specs.Boxes.{all, side_at, ranges_refusal, box_inside, box_refusal}
-use Rattle.rows.specs.Code.Row.{is_sound, sound_inside, row_box, row_refusal}
+use Rattle.rows.specs.Code.Row.{is_sound, sound_inside, row_box, row_refusal, RowAt}
 use Rattle.boxes.proofs.Walking.{told_at}
 use Rattle.boxes.proofs.Boxes.{all-says, all-when}
 
@@ -33,6 +34,14 @@ sound_none (Infinite r) place h = absurd (true≢false (sym h))
 sound_none InfiniteReversed place h = absurd (true≢false (sym h))
 sound_none NotANumber place h = absurd (true≢false (sym h))
 sound_none Reversed place h = absurd (true≢false (sym h))
+
+-- no other verdict is
+pub other_unsound : (v : Verdict) → ((r : Range) → v ≡ Sound r → ⊥) → false ≡ is_sound v
+other_unsound (Sound r) other = absurd (other r refl)
+other_unsound (Infinite r) other = refl
+other_unsound InfiniteReversed other = refl
+other_unsound NotANumber other = refl
+other_unsound Reversed other = refl
 
 pub none-sound : (v : Verdict) (place : ℕ) → (stored_refusal v place).number ≡ 0 → is_sound v ≡ true
 none-sound (Sound r) place h = refl
@@ -84,14 +93,6 @@ pub no_row : (kinds : List Dimension) (m : ℕ) (row outer : List ℕ) (number :
 unfolding row_refusal
 no_row kinds m row outer number e = sym (none_left _ 0 _ (rw (e, div-zero) (omega arith)))
 
--- the boxes of a row before the place `at` said nothing
-pub record RowAt (kinds : List Dimension) (m : ℕ) (row outer : List ℕ) (number at : ℕ) : Type 0 where
-  pub index : ℕ
-  pub place : at ≡ index * side_start kinds m
-  pub there : at ≤ length row
-  pub same : row_refusal kinds m row outer number
-      ≡ each (row_box kinds m row outer number) index (length row / side_start kinds m - index)
-
 module _ {kinds : List Dimension} {m : ℕ} {row outer : List ℕ} {number : ℕ} where
   pub row-start : RowAt kinds m row outer number 0
   unfolding row_refusal
@@ -125,13 +126,30 @@ module _ {kinds : List Dimension} {m : ℕ} {row outer : List ℕ} {number : ℕ
           let size : at + b - at ≡ b = omega arith in
           rw (size, r.place)
 
-      pub row-stop : {s : Refusal} → s ≡ box_refusal kinds m lent outer number at → (s.number ≡ 0 → ⊥) → s ≡ row_refusal kinds m row outer number
+      row-stop : {s : Refusal} → s ≡ box_refusal kinds m lent outer number at → (s.number ≡ 0 → ⊥) → s ≡ row_refusal kinds m row outer number
       row-stop e h = sym (r.same ∙ stop-left (row_box kinds m row outer number) r.index _ _ next (e ∙ here) h)
 
-      pub row_on : {s : Refusal} → s ≡ box_refusal kinds m lent outer number at → s.number ≡ 0 → RowAt kinds m row outer number (at + b)
+      row_on : {s : Refusal} → s ≡ box_refusal kinds m lent outer number at → s.number ≡ 0 → RowAt kinds m row outer number (at + b)
       row_on e h = record {
         index = r.index + 1;
         place = rw r.place (omega arith);
         there = omega (arith, r.there);
         same = r.same ∙ past-left (row_box kinds m row outer number) r.index _ _ next (e ∙ here) h;
       }
+
+      pub clear-passes : all (sound_inside kinds lent outer) 0 m ≡ true → RowAt kinds m row outer number (at + b)
+      clear-passes h = row_on (sym (within-clear kinds m lent outer number at h)) refl
+
+      -- the box here is not sound and inside: it has this fault, which refuses or does not
+      module _ (apart : all (sound_inside kinds lent outer) 0 m ≡ false) where
+        abbrev fault : Refusal
+        fault = otherwise (ranges_refusal kinds m lent at) (refusal number at)
+
+        same-fault : fault ≡ box_refusal kinds m lent outer number at
+        same-fault = sym (within-fault kinds m lent outer number at apart)
+
+        pub fault-stops : {s : Refusal} → (s ≡ fault) × (fault.number ≡ 0 → ⊥) → s ≡ row_refusal kinds m row outer number
+        fault-stops e = row-stop (e.0 ∙ same-fault) (λ h. e.1 (ap (λ (x : Refusal). x.number) (sym e.0) ∙ h))
+
+        pub fault-passes : fault.number ≡ 0 → RowAt kinds m row outer number (at + b)
+        fault-passes = row_on same-fault

@@ -5,3 +5,4 @@ pub mod Sound
 pub mod Rules
 pub mod Finite
 pub mod Others
+pub mod Left

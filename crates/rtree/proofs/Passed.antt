@@ -118,13 +118,11 @@ module _ (d : Description) (n : ℕ) (body : List ℕ) where
       (ap (otherwise (size (levels f n) (body_bytes f n b))) (sym (counts-last (stored_count n b body))))
 
   pub shaped : {r : Refusal}
-      → r ≡ otherwise (otherwise front (size s.levels s.bytes))
-      (table_refusal body s.table s.levels)
+      → r ≡ otherwise front (otherwise (size s.levels s.bytes) (table_refusal body s.table s.levels))
       → r ≡ shaped_refusal d n body
   unfolding shape_refusal first
   shaped e =
       e
-      ∙ regroup front _ _
       ∙ behind front _ _ rest
       ∙ regroup (tiles_refusal n) (front_refusal (length body) f) _
 

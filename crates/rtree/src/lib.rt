@@ -4,12 +4,13 @@
 ghost use Rattle.std.specs.Prelude.{◌≡◌, ℕ, ◌≤◌, ◌<◌, length};
 ghost use Rattle.answers.specs.Refusals.{refusal};
 ghost use Rattle.answers.specs.Checks.{otherwise};
+ghost use Rattle.answers.specs.Told.{told};
 ghost use Rattle.tree.specs.Shape.{place_in};
 ghost use Rattle.rtree.specs.Body.{levels_of, front_refusal, size_refusal};
 ghost use Rattle.rtree.specs.Opening.{refused_in};
 ghost use Rattle.rtree.specs.Code.Shaped.{IsShaped, tiles_refusal, table_refusal};
 
-use answers::Refusal;
+use answers::{Reason, Refusal, Refused};
 use description::Description;
 use tree::Shape;
 
@@ -24,14 +25,15 @@ pub struct Opened {
     pub levels: u64,
 }
 
-// Refused: every other number is 0.
+// Refused: every other number is 0. Which of the two, and the number, may come out of a state that C keeps, so they are
+// taken as they are.
 pub fn refused_in(which: u64, number: u64, place: u64) -> Opened
     ensures { result ≡ refused_in which (refusal number place) }
 {
     Opened {
-        number: number,
-        place: place,
-        which: which,
+        number,
+        place,
+        which,
         tiles: 0,
         fanout: 0,
         levels: 0,
@@ -55,59 +57,59 @@ pub fn check_shape(description: Description, tiles: u64, body: &[u8]) -> Shaped
     let box_bytes = description.box_bytes();
     let fanout = order::u32_at(body, 0) as usize;
     let shape = tree::shape_of(tiles as usize, fanout, box_bytes);
-    let table = shape.table;
-    let told = check_front(tiles, body.len(), fanout)
-        .or(check_size(body, shape.levels, shape.bytes))
-        .or(check_counts(body, &table, shape.levels));
+    let told = Refusal::from(check_by(tiles, body, fanout, shape));
     Shaped {
         number: told.number,
         place: told.place,
-        fanout: fanout,
-        shape: shape,
+        fanout,
+        shape,
     }
 }
 
-// 10; fewer than 8 bytes, 2; 13.
-fn check_front(tiles: u64, bytes: usize, fanout: usize) -> Refusal
-    ensures { result ≡ otherwise (tiles_refusal tiles) (front_refusal bytes fanout) }
+// The same by the shape.
+fn check_by(tiles: u64, body: &[u8], fanout: usize, shape: Shape) -> Result<(), Refused>
+    requires { (j : ℕ) → j < shape.levels → 8 ≤ place_in shape.table j }
+    ensures { told result ≡ otherwise (otherwise (tiles_refusal tiles)
+        (front_refusal (length body.now) fanout))
+        (otherwise (size_refusal shape.levels shape.bytes (length body.now) (levels_of body.now))
+        (table_refusal body.now shape.table shape.levels)) }
 {
-    let no_tiles = Description::tiles_outside(tiles);
-    let no_fanout = Description::fanout_outside(fanout as u64);
-    Refusal::when(no_tiles, Refusal::TILES, 0)
-        .or(Refusal::when(bytes < 8, Refusal::BYTES, bytes as u64))
-        .or(Refusal::when(no_fanout, Refusal::FANOUT, 0))
+    check_front(tiles, body.len(), fanout)?;
+    check_size(body, shape.levels, shape.bytes)?;
+    check_counts(body, &shape.table, shape.levels)
+}
+
+// 10; fewer than 8 bytes, 2; 13.
+#[tactic(auto, unfolding(crate::specs::Body::front_refusal, answers::specs::Checks::first, answers::specs::Told::number_of, answers::specs::Told::told))]
+fn check_front(tiles: u64, bytes: usize, fanout: usize) -> Result<(), Refused>
+    ensures { told result ≡ otherwise (tiles_refusal tiles) (front_refusal bytes fanout) }
+{
+    Reason::Tiles.when(Description::tiles_outside(tiles), 0)?;
+    Reason::Bytes.when(bytes < 8, bytes as u64)?;
+    Reason::Fanout.when(Description::fanout_outside(fanout as u64), 0)
 }
 
 // The number of levels, 14; the bytes of the whole, 2.
-fn check_size(body: &[u8], levels: usize, whole: usize) -> Refusal
-    ensures { result ≡ size_refusal levels whole (length body.now) (levels_of body.now) }
+#[tactic(auto, unfolding(crate::specs::Body::size_refusal, answers::specs::Checks::first, answers::specs::Told::number_of, answers::specs::Told::told))]
+fn check_size(body: &[u8], levels: usize, whole: usize) -> Result<(), Refused>
+    ensures { told result ≡ size_refusal levels whole (length body.now) (levels_of body.now) }
 {
     let bytes = body.len();
-    let stored = order::u32_at(body, 4) as usize;
-    Refusal::when(stored != levels, Refusal::LEVELS, 4).or(Refusal::when(
-        bytes != whole,
-        Refusal::BYTES,
-        bytes as u64,
-    ))
+    Reason::Levels.when(order::u32_at(body, 4) as usize != levels, 4)?;
+    Reason::Bytes.when(bytes != whole, bytes as u64)
 }
 
 // Each level's count, from the root's down: the table has the place of a level's first box, before which its count
 // stands, and what it has to be.
-fn check_counts(body: &[u8], table: &[usize; 50], levels: usize) -> Refusal
+fn check_counts(body: &[u8], table: &[usize; 50], levels: usize) -> Result<(), Refused>
     requires { (j : ℕ) → j < levels → 8 ≤ place_in table.now j }
-    ensures { result ≡ table_refusal body.now table.now levels }
+    ensures { told result ≡ table_refusal body.now table.now levels }
 {
-    let mut i: usize = 0;
-    while i < levels {
+    for i in 0..levels {
         let j = levels - 1 - i;
         let place = tree::place_in(table, j) - 8;
         let count = tree::count_in(table, j);
-        let wrong = order::u64_at(body, place) != count as u64;
-        let told = Refusal::when(wrong, Refusal::LEVELS, place as u64);
-        if told.number != 0 {
-            return told;
-        }
-        i += 1;
+        Reason::Levels.when(order::u64_at(body, place) != count as u64, place as u64)?;
     }
-    Refusal::none()
+    Ok(())
 }

@@ -3,7 +3,8 @@
 use mathlib.Core.Path.{◌≡◌, refl, ap}
 use mathlib.Core.Bool.{Bool, true, false, cond}
 use mathlib.Core.List.{[], ◌∷◌}
-use Prim.Native.Nat.{ℕ, suc, ◌+◌, ◌-◌, ◌≤◌, ◌<◌}
+use Prim.Native.Nat.{ℕ, suc, ◌+◌, ◌-◌, ◌≤◌, ◌<◌, max}
+use native.Mathlib.Decide.{dec_le}
 use native.Mathlib.Numerals.{add-one}
 use native.Mathlib.Omega.{arith}
 use lib.Dec.{eqb, ltb, leb-suc-suc}
@@ -35,6 +36,16 @@ module _ (sep : ℕ) (t : Bytes) (e : ℕ) where
   pub piece-over : length t ≤ e → piece_length sep (drop e t) ≡ 0
   unfolding piece_length
   piece-over h = rw (drop_of_length-le t {i = e} h)
+
+-- a loop from a place on, to the end or past it
+pub piece-last : (sep : ℕ) (t : Bytes) (from end : ℕ) → (from ≤ length t → end ≤ length t) → length t ≤ end
+    → from + piece_length sep (drop from t) ≡ end + piece_length sep (drop end t)
+    → max from (length t) ≡ from + piece_length sep (drop from t)
+piece-last sep t from end h l e = go (dec_le from (length t))
+  where
+    go : Dec (from ≤ length t) → max from (length t) ≡ from + piece_length sep (drop from t)
+    go (yes k) = omega (arith, h k, e, piece-over sep t end l)
+    go (no k) = omega (arith, piece-over sep t from (omega arith))
 
 -- ---- the first line and the lines after it; the first part and the parts after it
 pub lines_step : (b : ℕ) (t : Bytes) → lines (b ∷ t) ≡ take (piece_length newline (b ∷ t)) (b ∷ t) ∷ lines (drop (piece_length newline (b ∷ t)) t)

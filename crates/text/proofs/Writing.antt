@@ -2,12 +2,15 @@
 -- Assumes nothing.
 use mathlib.Core.Path.{◌≡◌, refl, ap, sym, ◌∙◌}
 use mathlib.Core.List.{[], ◌∷◌, ◌++◌}
-use Prim.Native.Nat.{ℕ, suc, ◌+◌, ◌-◌, ◌^◌, ◌≤◌, ◌<◌}
-use native.Mathlib.Numerals.{add-one}
+use mathlib.Core.Logic.{◌⊎◌, inl, inr}
+use Prim.Native.Nat.{ℕ, suc, ◌+◌, ◌-◌, ◌^◌, ◌≤◌, ◌<◌, min}
+use borrow.Rule.Slice.PartMut.{put_mid}
 use native.Mathlib.Decide.{dec_le}
 use native.Mathlib.Omega.{arith}
-use lib.ListN.{length, take, drop, set, get_or, length-append, length-drop, drop_of_length-le}
-use lib.Seq.{sets, sets-eq, length-sets, set_out, drop-cons, drop-append-le, drop-append-add, take-append_seam}
+use lib.ListN.{length, take, drop, set, length-append, length-drop, length-take, drop_of_length-le}
+use Rattle.std.proofs.lemmas.List.{drop-drop, take-append-drop}
+use mathlib.Core.List.{append_assoc}
+use lib.Seq.{sets, sets-eq, length-sets, set_out, drop-append-le, drop-append-add, take-append_seam}
 use Rattle.answers.specs.Laid.{laid}
 use Rattle.answers.proofs.Laid.{sets-append, sets-whole}
 use Rattle.decimal.specs.Decimal.{decimal}
@@ -18,17 +21,62 @@ use Rattle.text.specs.Text.{Bytes}
 use Rattle.text.specs.Write.{field, seen}
 use Rattle.text.specs.Code.Places.{Wrote}
 
--- ---- byte by byte
-module _ (out word : Bytes) (place i : ℕ) where
-  pub byte_next : i < length word → sets (set out place (get_or word i 0)) (place + 1) (drop (i + 1) word) ≡ sets out place (drop i word)
-  byte_next h = rw (add-one place, add-one i, drop-cons word i 0 h)
+-- ---- the bytes that fall into the buffer
+pub sets-none : (out word : Bytes) (place i : ℕ) → length word ≤ i → sets out place (drop i word) ≡ out
+sets-none out word place i h = rw (drop_of_length-le word {i = i} h)
 
-  pub bytes-done : length word ≤ i → sets out place (drop i word) ≡ out
-  bytes-done h = rw (drop_of_length-le word {i = i} h)
-
-pub sets-past : (out : Bytes) (place : ℕ) (t : Bytes) → length out ≤ place → sets out place t ≡ out
+sets-past : (out : Bytes) (place : ℕ) (t : Bytes) → length out ≤ place → sets out place t ≡ out
 sets-past out place [] h = refl
 sets-past out place (b ∷ t) h = rw (set_out out place b h, sets-past out (suc place) t (omega arith))
+
+-- as many as there are, or as there is room for
+sets-fit : (out : Bytes) (place n : ℕ) (t : Bytes) → place + n ≤ length out → n ≤ length t → (length t ≤ n) ⊎ (length out ≤ place + n)
+    → put_mid place n out (take n t) ≡ sets out place t
+sets-fit out place n t h l all =
+    let size : length (take n t) ≡ n = simp length-take (omega arith) in
+    let known : sets out place (take n t) ≡ take place out ++ (take n t ++ drop n (drop place out))
+    = sets-eq (take n t) out place (omega (arith, size)) ∙ rw (size, drop-drop n place out, append_assoc) in
+    let whole : sets out place t ≡ sets out place (take n t)
+    = ap (sets out place) (sym (take-append-drop n t)) ∙ (sets-append out place (take n t) (drop n t) ∙ go all) in
+    sym (whole ∙ known)
+  where
+    go : (length t ≤ n) ⊎ (length out ≤ place + n)
+        → sets (sets out place (take n t)) (place + length (take n t)) (drop n t) ≡ sets out place (take n t)
+    go (inl few) = sets-none (sets out place (take n t)) t (place + length (take n t)) n few
+    go (inr full) =
+        let size : length (take n t) ≡ n = simp length-take (omega arith) in
+        sets-past (sets out place (take n t)) (place + length (take n t)) (drop n t) (omega (arith, size, length-sets out place (take n t)))
+
+-- past the end of the buffer there is no room
+sets-full : (out : Bytes) (place : ℕ) (t : Bytes) {p n : ℕ} → length out ≤ place → p ≡ length out → n ≡ 0
+    → put_mid p n out (take n t) ≡ sets out place t
+sets-full out place t h e z = rw (e, z) (take-append-drop (length out) out ∙ sym (sets-past out place t h))
+
+-- from a place on, or from the end
+drop-least : (word : Bytes) (i s : ℕ) → s ≡ min i (length word) → drop s word ≡ drop i word
+drop-least word i s e = go (dec_le i (length word))
+  where
+    go : Dec (i ≤ length word) → drop s word ≡ drop i word
+    go (yes h) =
+        let z : s ≡ i = omega arith in
+        rw z
+    go (no h) = drop_of_length-le word {i = s} (omega arith) ∙ sym (drop_of_length-le word {i = i} (omega arith))
+
+pub stored : (out word : Bytes) (place i : ℕ) {p s n k j : ℕ} → p ≡ min place (length out) → s ≡ min i (length word)
+    → n ≡ min (length word - s) (length out - p) → k ≡ n → j ≡ n → put_mid p k out (take j (drop s word)) ≡ sets out place (drop i word)
+stored out word place i {p} {s} {n} e f g k j = rw (k, j, ← (drop-least word i s f)) (go (dec_le place (length out)) (dec_le (length word - s) n))
+  where
+    size : length (drop s word) ≡ length word - s
+    size = length-drop s word
+
+    go : Dec (place ≤ length out) → Dec (length word - s ≤ n) → put_mid p n out (take n (drop s word)) ≡ sets out place (drop s word)
+    go (yes h) (yes l) =
+        let z : p ≡ place = omega arith in
+        rw z (sets-fit out place n (drop s word) (omega arith) (omega (arith, size)) (inl (omega (arith, size))))
+    go (yes h) (no l) =
+        let z : p ≡ place = omega arith in
+        rw z (sets-fit out place n (drop s word) (omega arith) (omega (arith, size)) (inr (omega arith)))
+    go (no h) l = sets-full out place (drop s word) (omega arith) (omega arith) (omega arith)
 
 -- ---- what is seen
 module _ (from : ℕ) where
@@ -84,7 +132,7 @@ pub wrote_nothing : (from : ℕ) (out : Bytes) (at : ℕ) → Wrote from out at 
 unfolding seen
 wrote_nothing from out at = record {
   place = omega arith;
-  there = sym (bytes-done out [] (at - from) (from - at) (omega arith));
+  there = sym (sets-none out [] (at - from) (from - at) (omega arith));
 }
 
 -- as `write` and `write_field` answer

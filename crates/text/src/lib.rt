@@ -12,14 +12,12 @@ pub fn piece_end(text: &[u8], from: usize, separator: u8) -> usize
     ensures { (result ≡ from + piece_length separator (drop from text.now))
         × (result ≤ from + length text.now) }
 {
-    let mut end = from;
-    while end < text.len() {
+    for end in from..text.len() {
         if text[end] == separator {
             return end;
         }
-        end += 1;
     }
-    end
+    from.max(text.len())
 }
 
 // The piece from a place to the next separator, or to the end; nothing past the end.
@@ -41,20 +39,11 @@ pub fn after(text: &[u8], end: usize) -> usize
 }
 
 // Are two texts byte for byte the same?
+#[tactic(auto, using(crate::proofs::Compared::pointwise_same))]
 pub fn same(a: &[u8], b: &[u8]) -> bool
     ensures { result ≡ same a.now b.now }
 {
-    if a.len() != b.len() {
-        return false;
-    }
-    let mut i = 0;
-    while i < a.len() {
-        if a[i] != b[i] {
-            return false;
-        }
-        i += 1;
-    }
-    true
+    a == b
 }
 
 // A word goes to a place of a text, of which the buffer has the bytes from byte `from` on: the word's bytes that fall
@@ -63,16 +52,10 @@ pub fn write(word: &[u8], from: usize, out: &mut [u8], at: usize) -> usize
     ensures { (result ≡ length word.now)
         × (out.new ≡ seen from out.old at word.now) }
 {
-    let mut i = less(from, at);
-    let mut place = less(at, from);
-    while i < word.len() {
-        if out.len() <= place {
-            return word.len();
-        }
-        out[place] = word[i];
-        place += 1;
-        i += 1;
-    }
+    let skipped = from.saturating_sub(at).min(word.len());
+    let place = at.saturating_sub(from).min(out.len());
+    let count = (word.len() - skipped).min(out.len() - place);
+    out[place..place + count].copy_from_slice(&word[skipped..skipped + count]);
     word.len()
 }
 
@@ -83,7 +66,7 @@ pub fn write_field(n: u64, end: u8, from: usize, out: &mut [u8], at: usize) -> u
 {
     if from <= at {
         let place = at - from;
-        if 21 <= less(out.len(), place) {
+        if 21 <= out.len().saturating_sub(place) {
             return put_field(n, end, out, place);
         }
     }
@@ -101,10 +84,4 @@ fn put_field(n: u64, end: u8, out: &mut [u8], at: usize) -> usize
     let last = at + count;
     out[last] = end;
     count + 1
-}
-
-fn less(a: usize, b: usize) -> usize
-    ensures { result ≡ a - b }
-{
-    if b < a { a - b } else { 0 }
 }

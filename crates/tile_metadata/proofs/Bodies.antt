@@ -9,38 +9,21 @@ use native.Mathlib.Nat.{mul-le-mul}
 use native.Mathlib.Omega.{arith}
 use lib.Dec.{eqb}
 use lib.ListN.{length}
-use borrow.Author.Tests.{lt-ltb, le-ltb, eq-eqb, ne_eqb, eqb-true, eqb-false, not-false}
-use Rattle.answers.specs.Refusals.{refusal, bytes, tiles, count}
+use borrow.Author.Tests.{eq-eqb, ne_eqb, eqb-true, eqb-false, not-false}
+use Rattle.answers.specs.Refusals.{bytes, tiles, count}
 use Rattle.answers.specs.Checks.{check}
 use Rattle.answers.specs.declared.Refusal.{Refusal}
-use Rattle.answers.proofs.Checks.{clear, past-check, stop-check, check-clear, check-none, last}
+use Rattle.answers.specs.declared.Refused.{Refused}
+use Rattle.answers.specs.declared.Reason.{Reason}
+use Rattle.answers.specs.Told.{told, number_of}
+use Rattle.answers.proofs.Told.{ok-clear}
+use Rattle.std.specs.Prelude.{Option, Some, None, Result, Ok}
+use Rattle.std.specs.Option.{SomeIff, option_eq}
+use Rattle.answers.proofs.Checks.{clear, check-clear}
 use Rattle.description.specs.Limits.{least_tiles, most_tiles, outside}
 use Rattle.description.proofs.Limits.{within}
 use Rattle.order.specs.Little.{little}
 use Rattle.tile_metadata.specs.Bodies.{buffer_size, layout_refusal, together}
-
--- ---- as code goes through the checks
-module _ (w n : ℕ) (s : List ℕ) (inside : outside least_tiles most_tiles n ≡ false) where
-  pub few-stop : length s < 8 → layout_refusal w n s ≡ refusal bytes (length s)
-  unfolding layout_refusal
-  few-stop h = past-check _ _ _ _ inside ∙ stop-check _ _ _ _ (lt-ltb (length s) 8 h) (omega arith)
-
-  module _ (some : 8 ≤ length s) where
-    pub count-stops : (little s 0 8 ≡ n → ⊥) → layout_refusal w n s ≡ refusal count 0
-    unfolding layout_refusal
-    count-stops h =
-        past-check _ _ _ _ inside
-        ∙ past-check _ _ _ _ (le-ltb (length s) 8 some)
-        ∙ stop-check _ _ _ _ (ap not (ne_eqb (little s 0 8) n h)) (omega arith)
-
-    pub total-decides : little s 0 8 ≡ n
-        → layout_refusal w n s ≡ check (not (eqb (length s) (16 + w * n + buffer_size w n s))) bytes (length s)
-    unfolding layout_refusal
-    total-decides h =
-        past-check _ _ _ _ inside
-        ∙ past-check _ _ _ _ (le-ltb (length s) 8 some)
-        ∙ past-check _ _ _ _ (ap not (eq-eqb (little s 0 8) n h))
-        ∙ last _ (check-none (not (eqb (length s) (16 + w * n + buffer_size w n s))) bytes (length s) (omega arith))
 
 pub record Laid (w n : ℕ) (s : List ℕ) : Type 0 where
   pub some : least_tiles ≤ n
@@ -71,7 +54,18 @@ sum-test length a b h = go (eqb (length - a) b) refl
     go true e = e ∙ sym (eq-eqb length (a + b) (omega (arith, eqb-true (length - a) b e)))
     go false e = e ∙ sym (ne_eqb length (a + b) (λ z. eqb-false (length - a) b e (omega arith)))
 
+-- where there is one
+pub total_told : (o : Option ℕ) (length a b : ℕ) → SomeIff o (a ≤ length) (length - a)
+    → option_eq eqb o (Some b) ≡ eqb length (a + b)
+total_told (Some x) length a b (some, e) = rw e (sum-test length a b some)
+total_told None length a b none = sym (ne_eqb length (a + b) (λ z. none (omega arith)))
+
 -- ---- where the values end is a place that fits
+pub most : {r : Result Unit Refused} {u : Unit} {t : Bool} (n : ℕ) → told r ≡ check t (number_of Reason.Tiles) 0 → r ≡ Ok u
+    → t ≡ outside least_tiles most_tiles n → n ≤ most_tiles
+unfolding number_of
+most {t = t} n says ok e = (within least_tiles most_tiles n (sym e ∙ check-clear t tiles 0 (omega arith) (ok-clear says ok))).1
+
 pub end_fits : (w n : ℕ) → w ≤ 2 ^ 32 → n ≤ most_tiles → 16 + w * n < 2 ^ 64
 end_fits w n narrow most = omega (arith, mul-le-mul narrow most)
 

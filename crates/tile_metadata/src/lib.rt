@@ -2,10 +2,12 @@
 // one body and two that are lent together answer, and tile i's value as it stands there.
 #![tactic(auto)]
 
-ghost use Rattle.std.specs.Prelude.{◌≡◌, not, ◌+◌, eqb};
+ghost use Rattle.std.specs.Prelude.{◌≡◌, ◌+◌, ◌*◌, ◌≤◌, ◌<◌, ℕ, true, false, length};
+ghost use Rattle.order.specs.Little.{little};
+ghost use Rattle.answers.specs.Told.{told};
 ghost use Rattle.tile_metadata.specs.Bodies.{layout_refusal, answered, together, value_at, value_of};
 
-use answers::Refusal;
+use answers::{Reason, Refusal, Refused};
 use description::Description;
 
 // Number 0: not refused. An accepted body answers n.
@@ -65,84 +67,131 @@ pub fn together(tiles: u64, first: Refusal, second: Refusal) -> TwoBodies
     }
 }
 
-// What mins or maxes are refused for before their values, each of which has `width` bytes.
-pub fn check_layout(width: u32, tiles: u64, body: &[u8]) -> Refusal
-    ensures { result ≡ layout_refusal width tiles body.now }
-{
-    if description::outside(Description::LEAST_TILES, Description::MOST_TILES, tiles) {
-        return Refusal::new(Refusal::TILES, 0);
+impl TileValues {
+    // The same of what a check told.
+    pub fn told(tiles: u64, checked: Result<(), Refused>) -> TileValues
+        ensures { result ≡ answered tiles (told checked) }
+    {
+        answered(tiles, Refusal::from(checked))
     }
-    let length = body.len() as u64;
-    if length < 8 {
-        return Refusal::new(Refusal::BYTES, length);
-    }
-    let count = order::u64_at(body, 0);
-    if count != tiles {
-        return Refusal::new(Refusal::COUNT, 0);
-    }
-    let end = 8 + width as u64 * tiles;
-    let size = order::u64_at(body, end as usize);
-    Refusal::when(other_total(length, end + 8, size), Refusal::BYTES, length)
 }
 
-// Tile i's value of four bytes with no check of the body: 0 past the last tile, and a byte past the end counts 0. Of a
-// value that is all there, a part of its own bytes lets the compiler drop the tests of the read.
+impl TwoBodies {
+    // The same of what two checks told.
+    pub fn told(tiles: u64, first: Result<(), Refused>, second: Result<(), Refused>) -> TwoBodies
+        ensures { result ≡ together tiles (told first) (told second) }
+    {
+        together(tiles, Refusal::from(first), Refusal::from(second))
+    }
+}
+
+// What mins or maxes are refused for before their values, each of which has `width` bytes.
+pub fn check_layout(width: u32, tiles: u64, body: &[u8]) -> Result<(), Refused>
+    ensures { told result ≡ layout_refusal width tiles body.now }
+{
+    let outside = description::outside(Description::LEAST_TILES, Description::MOST_TILES, tiles);
+    Reason::Tiles.when(outside, 0)?;
+    let length = body.len() as u64;
+    Reason::Bytes.when(length < 8, length)?;
+    Reason::Count.when(order::u64_at(body, 0) != tiles, 0)?;
+    let end = 8 + width as u64 * tiles;
+    let size = order::u64_at(body, end as usize);
+    let rest = length.checked_sub(end + 8);
+    Reason::Bytes.when(rest != Some(size), length)
+}
+
+// Tile i's value of four bytes with no check of the body: 0 past the last tile, and a byte past the end counts 0.
 pub fn four_at(tiles: u64, body: &[u8], i: u64) -> u32
     ensures { result ≡ value_of 4 tiles body.now i }
 {
-    let words = body.len() as u64 / 8;
-    if tiles <= i {
-        return 0;
-    }
-    if words <= i / 2 + 1 {
-        return cut_four(body, i);
-    }
-    let at = (8 + 4 * i) as usize;
-    let end = at + 4;
-    order::u32_at(&body[at..end], 0)
+    order::u32_at(value_bytes(4, tiles, body, i), 0)
 }
 
 // The same of eight bytes.
 pub fn eight_at(tiles: u64, body: &[u8], i: u64) -> u64
     ensures { result ≡ value_of 8 tiles body.now i }
 {
-    let words = body.len() as u64 / 8;
+    order::u64_at(value_bytes(8, tiles, body, i), 0)
+}
+
+// The bytes of tile i's value, as many as are there, and none past the last tile. One test tells a value that is there:
+// whether the word of eight bytes that it ends in is.
+fn value_bytes(width: usize, tiles: u64, body: &[u8], i: u64) -> &[u8]
+    requires some { 1 ≤ width }
+    requires most { width ≤ 8 }
+    ensures { little result.now 0 width ≡ value_of width tiles body.now i }
+{
+    let length = body.len();
     if tiles <= i {
-        return 0;
+        return &body[..0];
     }
-    if words <= i + 1 {
-        return cut_eight(body, i);
+    let word = i / (8 / width as u64) + 1;
+    if word < length as u64 / 8 {
+        return own_bytes(body, width, i as usize);
     }
-    let at = (8 + 8 * i) as usize;
-    let end = at + 8;
-    order::u64_at(&body[at..end], 0)
+    if (length / width) as u64 <= i {
+        return &body[..0];
+    }
+    let start = 8 + width * i as usize;
+    &body[start.min(length)..]
 }
 
-// The four bytes of value i, where a byte past the end counts 0.
-fn cut_four(body: &[u8], i: u64) -> u32
-    ensures { result ≡ value_at 4 body.now i }
+// The bytes of value i, which are all there: of a part of its own a read drops its tests.
+fn own_bytes(body: &[u8], width: usize, i: usize) -> &[u8]
+    requires { 8 + width * i + width ≤ length body.now }
+    ensures { little result.now 0 width ≡ value_at width body.now i }
 {
-    let words = body.len() as u64 / 4;
-    if words <= i {
-        return 0;
-    }
-    order::u32_at(body, (8 + 4 * i) as usize)
+    let at = 8 + width * i;
+    let end = at + width;
+    &body[at..end]
 }
 
-// The same of eight bytes.
-fn cut_eight(body: &[u8], i: u64) -> u64
-    ensures { result ≡ value_at 8 body.now i }
+// Whether a test holds of each tile from one on and before another. It goes through all of them, so that the compiler
+// takes several at once.
+fn all_between<F: Fn(usize) -> bool>(from: usize, to: usize, test: F) -> bool
+    requires { (i : ℕ) → from ≤ i → i < to → F.pre test i }
+    ensures holds { result ≡ true → (i : ℕ) → from ≤ i → i < to → F.post test i true }
+    ensures fails { result ≡ false → (i : ℕ) × (from ≤ i) × (i < to) × F.post test i false }
 {
-    let words = body.len() as u64 / 8;
-    if words <= i {
-        return 0;
+    let mut all = true;
+    for i in from..to {
+        all &= test(i);
     }
-    order::u64_at(body, (8 + 8 * i) as usize)
+    all
 }
 
-// Whether a length isn't a + b, which may be past 2^64.
-fn other_total(length: u64, a: u64, b: u64) -> bool
-    ensures { result ≡ not (eqb length (a + b)) }
-{
-    if a <= length { length - a != b } else { true }
+// So many tiles, of which each is asked the same. What a test asks is told by whoever calls; a public function asks
+// nothing, so these are methods.
+pub trait Tiles {
+    ghost count: { Self → ℕ };
+
+    // Whether a test holds of all of them.
+    fn all_hold<F: Fn(usize) -> bool>(self, test: F) -> bool
+        requires { (i : ℕ) → i < count self → F.pre test i }
+        ensures holds { result ≡ true → (i : ℕ) → i < count self → F.post test i true }
+        ensures fails { result ≡ false → (i : ℕ) × (i < count self) × F.post test i false };
+
+    // The same, eight tiles at a time, which the compiler writes out.
+    fn all_hold_by_eights<F: Fn(usize) -> bool>(self, test: F) -> bool
+        requires { (i : ℕ) → i < count self → F.pre test i }
+        ensures holds { result ≡ true → (i : ℕ) → i < count self → F.post test i true }
+        ensures fails { result ≡ false → (i : ℕ) × (i < count self) × F.post test i false };
+}
+
+impl Tiles for usize {
+    ghost count = { λ n. n };
+
+    fn all_hold<F: Fn(usize) -> bool>(self, test: F) -> bool {
+        all_between(0, self, test)
+    }
+
+    fn all_hold_by_eights<F: Fn(usize) -> bool>(self, test: F) -> bool {
+        for block in 0..self / 8 {
+            let from = 8 * block;
+            if !all_between(from, from + 8, &test) {
+                return false;
+            }
+        }
+        all_between(self / 8 * 8, self, test)
+    }
 }

@@ -1,4 +1,5 @@
-// What is told of each tile of a run in one call, with no check: offset and extent, and the cells.
+// What is told of each tile of a run in one call, with no check: offset and extent, and the cells. Each has a loop of its
+// own: one loop would take a closure that answers an array of any length, which the prover doesn't cover.
 #![tactic(auto)]
 
 ghost use Rattle.std.specs.Prelude.{◌≡◌};
@@ -10,14 +11,12 @@ pub fn extents_at(body: &[u8], tiles: u64, size: u64, run: &[u32], out: &mut [u6
     ensures { out.new ≡ extents_told tiles size body.now run.now
         out.old }
 {
-    let count = answers::lesser(run.len(), out.len() / 2);
-    let mut k = 0;
-    while k < count {
+    let count = run.len().min(out.len() / 2);
+    for k in 0..count {
         let e = lists::extent_at(body, tiles, size, run[k] as u64);
         let at = 2 * k;
         out[at] = e.offset;
         out[at + 1] = e.extent;
-        k += 1;
     }
 }
 
@@ -25,10 +24,8 @@ pub fn extents_at(body: &[u8], tiles: u64, size: u64, run: &[u32], out: &mut [u6
 pub fn cells_at(tiles: u64, last: u64, capacity: u64, run: &[u32], out: &mut [u64])
     ensures { out.new ≡ cells_told tiles last capacity run.now out.old }
 {
-    let count = answers::lesser(run.len(), out.len());
-    let mut k = 0;
-    while k < count {
+    let count = run.len().min(out.len());
+    for k in 0..count {
         out[k] = cells::cells_at(tiles, last, capacity, run[k] as u64);
-        k += 1;
     }
 }

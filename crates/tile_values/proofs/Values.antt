@@ -15,9 +15,9 @@ use lib.Ieee.{Format, of_bits, to_bits, fits}
 use lib.Ieee.Bits.{of_bits-fits}
 use borrow.Author.Tests.{ltb-false, le-ltb, eqb-true, not-false}
 use Rattle.answers.specs.Refusals.{none, bytes, not_a_number, reversed}
-use Rattle.answers.specs.Checks.{check, otherwise, first}
+use Rattle.answers.specs.Checks.{check}
 use Rattle.answers.specs.declared.Refusal.{Refusal}
-use Rattle.answers.proofs.Checks.{past, stop, clear, check-clear, check-none, each_none, last}
+use Rattle.answers.proofs.Checks.{past, clear, check-clear, check-none, each_none, last}
 use Rattle.order.specs.Key.{float_at_most}
 use Rattle.order.proofs.Little.{little-lt}
 use Rattle.order.proofs.Floats.{le-of-bits, le-of-floats}
@@ -96,19 +96,11 @@ pair-in-order k n mins maxes h =
 
 -- ---- as code goes through the checks
 module _ (k : Kind) (n : ℕ) (s : List ℕ) where
-  pub layout-stops : ((layout_refusal (end_bytes k) n s).number ≡ 0 → ⊥) → fixed_refusal k n s ≡ layout_refusal (end_bytes k) n s
-  unfolding fixed_refusal
-  layout-stops h = stop _ _ h
-
   pub size-decides : (layout_refusal (end_bytes k) n s).number ≡ 0
       → fixed_refusal k n s ≡ check (not (eqb (buffer_size (end_bytes k) n s) 0)) bytes (length s)
   unfolding fixed_refusal
   size-decides h =
       past _ _ h ∙ last _ (check-none (not (eqb (buffer_size (end_bytes k) n s) 0)) bytes (length s) (omega arith))
-
-  pub fixed-stops : ((fixed_refusal k n s).number ≡ 0 → ⊥) → values_refusal k n s ≡ fixed_refusal k n s
-  unfolding values_refusal
-  fixed-stops h = stop _ _ h
 
   pub values-decide : (fixed_refusal k n s).number ≡ 0
       → values_refusal k n s ≡ nan_breaks k n s
@@ -116,10 +108,6 @@ module _ (k : Kind) (n : ℕ) (s : List ℕ) where
   values-decide h = past _ _ h ∙ last _ (each_none _ 0 n)
 
 module _ (k : Kind) (n : ℕ) (mins maxes : List ℕ) where
-  pub order-joins : otherwise (values_refusal k n maxes) (order_breaks k n mins maxes) ≡ maxes_refusal k n mins maxes
-  unfolding maxes_refusal first
-  order-joins = ap (otherwise (values_refusal k n maxes)) (sym (last _ (each_none _ 0 n)))
-
   pub order-decides : (values_refusal k n maxes).number ≡ 0
       → maxes_refusal k n mins maxes ≡ order_breaks k n mins maxes
   unfolding maxes_refusal

@@ -22,7 +22,8 @@ pub struct Shape {
     pub boxes: usize,
     // 8 + 8L + B times all boxes: the bytes of the whole body
     pub bytes: usize,
-    // by distance j from the leaves: the place of the level's first box at 2j, its box count at 2j + 1; 0 past the root
+    // by distance j from the leaves: the place of the level's first box at 2j, its box count at 2j + 1; 0 past the root.
+    // It is the list of the definitions, and `place_in` and `count_in` read it
     pub table: [usize; 50],
 }
 
@@ -36,7 +37,7 @@ pub fn shape_of(tiles: usize, fanout: usize, box_bytes: usize) -> Shape
             levels: 0,
             boxes: 0,
             bytes: 0,
-            table: table,
+            table,
         };
     }
     let filled = fill(&mut table, fanout, box_bytes, tiles, 0);
@@ -44,7 +45,7 @@ pub fn shape_of(tiles: usize, fanout: usize, box_bytes: usize) -> Shape
         levels: filled.levels,
         boxes: filled.boxes,
         bytes: 8 + 8 * filled.levels + box_bytes * filled.boxes,
-        table: table,
+        table,
     }
 }
 
@@ -52,10 +53,7 @@ pub fn shape_of(tiles: usize, fanout: usize, box_bytes: usize) -> Shape
 pub fn row_length(fanout: usize, below: usize, first: usize) -> usize
     ensures { result ≡ min fanout (below - first) }
 {
-    if below <= first {
-        return 0;
-    }
-    answers::lesser(fanout, below - first)
+    fanout.min(below.saturating_sub(first))
 }
 
 // Of the level at distance j, in a shape's table: the place of its first box.
@@ -80,13 +78,9 @@ pub fn count_in(table: &[usize], j: usize) -> usize
 fn outside_limits(tiles: usize, fanout: usize, box_bytes: usize) -> bool
     ensures { result ≡ outside_limits fanout tiles box_bytes }
 {
-    if Description::tiles_outside(tiles as u64) {
-        return true;
-    }
-    if Description::fanout_outside(fanout as u64) {
-        return true;
-    }
-    MOST_BOX_BYTES < box_bytes
+    Description::tiles_outside(tiles as u64)
+        || Description::fanout_outside(fanout as u64)
+        || MOST_BOX_BYTES < box_bytes
 }
 
 // What a level gives back to the one below it: L, the boxes from it up to the root, the place of its first box.
@@ -132,7 +126,7 @@ fn fill(
     Filled {
         levels: filled.levels,
         boxes: filled.boxes + count,
-        place: place,
+        place,
     }
 }
 

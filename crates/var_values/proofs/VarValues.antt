@@ -1,24 +1,23 @@
 -- What is known of accepted values of a var field? The starts are in order, and the values joined are the buffer.
 -- Assumes nothing.
 use mathlib.Core.Path.{◌≡◌, refl, sym, ap, ◌∙◌}
-use mathlib.Core.Bool.{Bool, true, false, not, ◌&&◌, cond}
-use mathlib.Core.List.{List, [], ◌∷◌, ◌++◌, append_assoc, append-nil}
+use mathlib.Core.Bool.{Bool, true, false, not, cond}
+use mathlib.Core.List.{List, [], ◌++◌, append_assoc, append-nil}
 use Prim.Native.Nat.{ℕ, zero, suc, ◌+◌, ◌-◌, ◌*◌, ◌≤◌, ◌<◌}
 use native.Mathlib.Decide.{dec_lt}
 use native.Mathlib.Nat.{zero-add, add_assoc, add-zero}
 use native.Mathlib.Numerals.{add-one}
 use native.Mathlib.Omega.{arith}
-use lib.Dec.{ltb, leb, eqb}
+use lib.Dec.{ltb, eqb}
 use lib.ListN.{length, take, drop, length-drop}
 use lib.Seq.{take-add, take_all, drop-drop}
 use borrow.Author.Tests.{lt-ltb, le-ltb, ltb-false, le-leb, lt-leb, ne_eqb}
 use Rattle.answers.specs.Refusals.{none, the_tile_offsets}
 use Rattle.answers.specs.Runs.{over, sum, join}
 use Rattle.answers.proofs.Runs.{over-snoc}
-use Rattle.answers.proofs.Checks.{past, stop, clear, each_none, last}
-use Rattle.lists.specs.declared.Extent.{Extent}
+use Rattle.answers.proofs.Checks.{past, clear, each_none, last}
 use Rattle.lists.specs.Lists.{entry}
-use Rattle.lists.specs.Offsets.{offset_of, extent_of, EndToEnd}
+use Rattle.lists.specs.Offsets.{offset_of, end_of, extent_of, EndToEnd}
 use Rattle.lists.specs.VarOffsets.{var_breaks, starts_refusal}
 use Rattle.entries.proofs.Entries.{starts-decide}
 use Rattle.entries.proofs.Extents.{end_to_end, starts-in-order}
@@ -59,10 +58,6 @@ sound n s h =
 
 -- ---- as code goes through the checks
 module _ (n : ℕ) (s : List ℕ) where
-  pub layout-stops : ((layout_refusal 8 n s).number ≡ 0 → ⊥) → var_values_refusal n s ≡ layout_refusal 8 n s
-  unfolding var_values_refusal
-  layout-stops h = stop _ _ h
-
   pub starts-say : (layout_refusal 8 n s).number ≡ 0 → var_values_refusal n s ≡ starts_refusal n (buffer_size 8 n s) s
   unfolding var_values_refusal
   starts-say h =
@@ -93,6 +88,12 @@ starts-keep n s h first rise = past _ _ h ∙ last _ (each_none _ 0 n) ∙ none-
         let e : suc i - 1 ≡ i = omega arith in
         let f : i + 1 ≡ suc i = add-one i in
         rw (ne_eqb (suc i) 0 (λ z. omega arith), e, le-ltb (entry s (suc i)) (entry s i) (rw f at (rise i (omega arith))), le-ltb (entry s n) (entry s (suc i)) (not-above s n (n - suc i) (suc i) (omega arith) rise))
+
+-- ---- where a value starts, and how many bytes it has
+pub there : {offset end extent : ℕ} (n : ℕ) (s : List ℕ) (i : ℕ) → i < n → offset ≡ entry s i → end ≡ end_of n (buffer_size 8 n s) s i → extent ≡ end - offset
+    → (offset ≡ offset_of n s i) × (extent ≡ extent_of n (buffer_size 8 n s) s i)
+unfolding offset_of extent_of
+there n s i h p q r = let some = lt-ltb i n h in (rw some p, rw some (r ∙ rw (q, p)))
 
 -- ---- where a value lies
 module _ (n : ℕ) (s : List ℕ) (i : ℕ) where

@@ -13,19 +13,52 @@ use Rattle.answers.proofs.Others.{Other}
 use Rattle.order.proofs.Tests.{not-leb}
 use Rattle.description.specs.declared.Kind.{Kind}
 use Rattle.description.specs.Kinds.{key, is_nan, is_infinite, ordered, at_most}
-use Rattle.description.proofs.Tests.{both}
 use Rattle.description.proofs.Patterns.{at-most-says}
-use borrow.Author.Tests.{not-true}
 use Rattle.ranges.specs.declared.Range.{Range}
 use Rattle.ranges.specs.Ranges.{Ends, ends, ends_of, has_nan}
 use Rattle.verdicts.specs.declared.Verdict.{Verdict}
 use Rattle.verdicts.specs.declared.Verdict.TheVariants.{Sound, Infinite, InfiniteReversed, NotANumber, Reversed}
-use Rattle.verdicts.specs.Verdicts.{has_infinity, is_finite, is_reversed, verdict, stored_refusal, asked_refusal}
+use Rattle.verdicts.specs.Verdicts.{has_infinity, is_finite, is_reversed, verdict, verdict_on, stored_refusal, asked_refusal}
 
--- by the ends' order, by a NaN and by an infinity
-abbrev pub verdict_on : Range → Bool → Bool → Bool → Verdict
-verdict_on r ordered nan infinite =
-    cond ordered (cond infinite (Infinite r) (Sound r)) (cond nan NotANumber (cond infinite InfiniteReversed Reversed))
+-- as the code tells what is not sound
+abbrev pub other_verdict : Range → Bool → Bool → Bool → Verdict
+other_verdict r ordered nan infinite = cond nan NotANumber (cond ordered (Infinite r) (cond infinite InfiniteReversed Reversed))
+
+-- a float's order is that of the keys of what is no NaN; x and y tell the NaNs, i and j the infinities
+abbrev in_order : Bool → Bool → Bool → Bool
+in_order x y l = not x && (not y && l)
+
+module _ (r : Range) (x y l i j : Bool) where
+  sound-on : (in_order x y l && (not i && not j)) ≡ true → Sound r ≡ verdict_on r (in_order x y l) (x || y) (i || j)
+  sound-on h = go x y l i j h
+    where
+      go : (x y l i j : Bool) → (in_order x y l && (not i && not j)) ≡ true → Sound r ≡ verdict_on r (in_order x y l) (x || y) (i || j)
+      go true y l i j h = absurd (true≢false (sym h))
+      go false true l i j h = absurd (true≢false (sym h))
+      go false false false i j h = absurd (true≢false (sym h))
+      go false false true true j h = absurd (true≢false (sym h))
+      go false false true false true h = absurd (true≢false (sym h))
+      go false false true false false h = refl
+
+  pub sound-by : {t : Bool} → t ≡ (in_order x y l && (not i && not j)) → t ≡ true → Sound r ≡ verdict_on r (in_order x y l) (x || y) (i || j)
+  sound-by e h = sound-on (sym e ∙ h)
+
+  other-on : (in_order x y l && (not i && not j)) ≡ false
+      → other_verdict r (in_order x y l) (x || y) (i || j) ≡ verdict_on r (in_order x y l) (x || y) (i || j)
+  other-on h = go x y l i j h
+    where
+      go : (x y l i j : Bool) → (in_order x y l && (not i && not j)) ≡ false
+          → other_verdict r (in_order x y l) (x || y) (i || j) ≡ verdict_on r (in_order x y l) (x || y) (i || j)
+      go true y l i j h = refl
+      go false true l i j h = refl
+      go false false false i j h = refl
+      go false false true true j h = refl
+      go false false true false true h = refl
+      go false false true false false h = absurd (true≢false h)
+
+  pub other-by : {p n m t : Bool} {v : Verdict} → p ≡ in_order x y l → n ≡ (x || y) → m ≡ (i || j)
+      → t ≡ (in_order x y l && (not i && not j)) → t ≡ false → v ≡ other_verdict r p n m → v ≡ verdict_on r (in_order x y l) (x || y) (i || j)
+  other-by e f h s u g = g ∙ (λ i. other_verdict r (e i) (f i) (h i)) ∙ other-on (sym s ∙ u)
 
 module _ (k : Kind) (a b : ℕ) (r : Range) where
   -- an end is infinite
@@ -48,41 +81,9 @@ module _ (k : Kind) (a b : ℕ) (r : Range) where
       → v ≡ verdict_on r p n i → v ≡ verdict (ends_of r) r
   verdict-by q e f h g = g ∙ (λ i. verdict_on r (e i) (f i) (h i)) ∙ sym verdict-on-is ∙ ap (λ (x : Ends). verdict x r) (sym q)
 
-  -- as the code tells what is not sound
-  abbrev pub other_verdict : Bool → Bool → Bool → Verdict
-  other_verdict ordered nan inf = cond nan NotANumber (cond ordered (Infinite r) (cond inf InfiniteReversed Reversed))
-
-  other-is : (at_most (ordered k) a b && (not (is_infinite k a) && not (is_infinite k b))) ≡ false
-      → verdict (ends k a b) r ≡ other_verdict (at_most (ordered k) a b) (is_nan k a || is_nan k b) infinite
-  unfolding verdict has_nan has_infinity is_reversed at_most
-  other-is h =
-      rw (← not-leb (key k b) (key k a)) (go (is_nan k a) (is_nan k b) (leb (key k a) (key k b)) (is_infinite k a) (is_infinite k b) h)
-    where
-      go : (x y l i j : Bool) → ((not x && (not y && l)) && (not i && not j)) ≡ false
-          → cond (x || y) NotANumber (cond (i || j) (cond (not l) InfiniteReversed (Infinite r)) (cond (not l) Reversed (Sound r)))
-          ≡ other_verdict (not x && (not y && l)) (x || y) (i || j)
-      go true y l i j h = refl
-      go false true l i j h = refl
-      go false false true true j h = refl
-      go false false true false true h = refl
-      go false false true false false h = absurd (true≢false h)
-      go false false false i j h = refl
-
-  pub other-by : {p n i t : Bool} {v : Verdict} → ends_of r ≡ ends k a b → p ≡ at_most (ordered k) a b → n ≡ (is_nan k a || is_nan k b) → i ≡ infinite
-      → t ≡ (at_most (ordered k) a b && (not (is_infinite k a) && not (is_infinite k b))) → t ≡ false → v ≡ other_verdict p n i → v ≡ verdict (ends_of r) r
-  other-by q e f h s u g =
-      g ∙ (λ i. other_verdict (e i) (f i) (h i)) ∙ sym (other-is (sym s ∙ u)) ∙ ap (λ (x : Ends). verdict x r) (sym q)
-
   -- ends that are finite and in order
   pub sound : at_most (ordered k) a b ≡ true → is_infinite k a ≡ false → is_infinite k b ≡ false → verdict (ends k a b) r ≡ Sound r
   sound h p q = verdict-on-is ∙ rw (h, p, q)
-
-  pub sound-by : {t : Bool} → ends_of r ≡ ends k a b → t ≡ (at_most (ordered k) a b && (not (is_infinite k a) && not (is_infinite k b))) → t ≡ true
-      → Sound r ≡ verdict (ends_of r) r
-  sound-by q e h =
-      let s = both (at_most (ordered k) a b) _ (sym e ∙ h) in
-      let t = both (not (is_infinite k a)) (not (is_infinite k b)) s.1 in
-      sym (ap (λ (x : Ends). verdict x r) q ∙ sound s.0 (not-true (is_infinite k a) t.0) (not-true (is_infinite k b) t.1))
 
   module _ (place : ℕ) where
     pub stored-sound : at_most (ordered k) a b ≡ true → is_infinite k a ≡ false → is_infinite k b ≡ false

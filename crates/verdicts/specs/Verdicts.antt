@@ -28,6 +28,11 @@ verdict e r =
     cond (has_nan e) NotANumber
     (cond (has_infinity e) (cond (is_reversed e) InfiniteReversed (Infinite r)) (cond (is_reversed e) Reversed (Sound r)))
 
+-- the same by the ends' order, by a NaN and by an infinity
+abbrev pub verdict_on : Range → Bool → Bool → Bool → Verdict
+verdict_on r ordered nan infinite =
+    cond ordered (cond infinite (Infinite r) (Sound r)) (cond nan NotANumber (cond infinite InfiniteReversed Reversed))
+
 -- of the range of a kind at a place of lent bytes
 abbrev pub verdict_at : Kind → List ℕ → ℕ → Verdict
 verdict_at k s at = verdict (ends_at k s at) (range_at k s at)

@@ -1,11 +1,16 @@
 // A range judged: the verdict on it, and what that says of a stored range and of a window's.
 #![tactic(auto)]
 
-ghost use Rattle.std.specs.Prelude.{◌≡◌, cond};
+ghost use Rattle.std.specs.Prelude.{◌≡◌, ◌||◌, cond};
+ghost use Rattle.std.specs.Float.Ieee.{nan_bits};
+ghost use Rattle.answers.specs.Told.{told};
+ghost use Rattle.order.specs.Key.{float_at_most, infinite};
 ghost use Rattle.ranges.specs.Ranges.{ends_of};
-ghost use Rattle.verdicts.specs.Verdicts.{verdict, stored_refusal, asked_refusal};
+ghost use Rattle.verdicts.specs.Verdicts.{verdict, verdict_on, stored_refusal, asked_refusal};
 
-use answers::Refusal;
+use answers::{Reason, Refused};
+use floats::Float;
+use ints::Int;
 use ranges::Range;
 
 // The verdict on a range: what its ends are, and whether they are in order. A stored range must be sound; a window's
@@ -20,62 +25,40 @@ pub enum Verdict {
 }
 
 impl Verdict {
-    // A sound range is told first, with an early return: opening asks this of every box, and finds hardly any other.
     pub fn of(range: Range) -> Verdict
         ensures { result ≡ verdict (ends_of range) range }
     {
         match range {
-            Range::I32(low, high) => finite_verdict(range, ints::i32_at_most(low, high)),
-            Range::I64(low, high) => finite_verdict(range, ints::i64_at_most(low, high)),
-            Range::F32(low, high) => {
-                if floats::f32_finite_at_most(low, high) {
-                    return Verdict::Sound(range);
-                }
-                other_verdict(
-                    range,
-                    floats::f32_at_most(low, high),
-                    floats::f32_is_nan(low) || floats::f32_is_nan(high),
-                    floats::f32_is_infinite(low) || floats::f32_is_infinite(high),
-                )
-            }
-            Range::F64(low, high) => {
-                if floats::f64_finite_at_most(low, high) {
-                    return Verdict::Sound(range);
-                }
-                other_verdict(
-                    range,
-                    floats::f64_at_most(low, high),
-                    floats::f64_is_nan(low) || floats::f64_is_nan(high),
-                    floats::f64_is_infinite(low) || floats::f64_is_infinite(high),
-                )
-            }
-            Range::U64(low, high) => finite_verdict(range, ints::u64_at_most(low, high)),
+            Range::I32(low, high) => finite_verdict(range, low.at_most(high)),
+            Range::I64(low, high) => finite_verdict(range, low.at_most(high)),
+            Range::F32(low, high) => float_verdict(range, low, high),
+            Range::F64(low, high) => float_verdict(range, low, high),
+            Range::U64(low, high) => finite_verdict(range, low.at_most(high)),
         }
     }
 
     // What each verdict on a stored range says at a place.
-    pub fn stored(self, place: u64) -> Refusal
-        ensures { result ≡ stored_refusal self place }
+    #[tactic(auto, unfolding(answers::specs::Told::told, answers::specs::Told::number_of))]
+    pub fn stored(self, place: u64) -> Result<(), Refused>
+        ensures { told result ≡ stored_refusal self place }
     {
         match self {
-            Verdict::Sound(_) => Refusal::none(),
-            Verdict::Infinite(_) => Refusal::new(Refusal::INFINITE, place),
-            Verdict::InfiniteReversed => Refusal::new(Refusal::INFINITE, place),
-            Verdict::NotANumber => Refusal::new(Refusal::NOT_A_NUMBER, place),
-            Verdict::Reversed => Refusal::new(Refusal::REVERSED, place),
+            Verdict::Sound(_) => Ok(()),
+            Verdict::Infinite(_) | Verdict::InfiniteReversed => Err(Reason::Infinite.at(place)),
+            Verdict::NotANumber => Err(Reason::NotANumber.at(place)),
+            Verdict::Reversed => Err(Reason::Reversed.at(place)),
         }
     }
 
     // And on a range of a window.
-    pub fn asked(self, place: u64) -> Refusal
-        ensures { result ≡ asked_refusal self place }
+    #[tactic(auto, unfolding(answers::specs::Told::told, answers::specs::Told::number_of))]
+    pub fn asked(self, place: u64) -> Result<(), Refused>
+        ensures { told result ≡ asked_refusal self place }
     {
         match self {
-            Verdict::Sound(_) => Refusal::none(),
-            Verdict::Infinite(_) => Refusal::none(),
-            Verdict::InfiniteReversed => Refusal::new(Refusal::REVERSED, place),
-            Verdict::NotANumber => Refusal::new(Refusal::NOT_A_NUMBER, place),
-            Verdict::Reversed => Refusal::new(Refusal::REVERSED, place),
+            Verdict::Sound(_) | Verdict::Infinite(_) => Ok(()),
+            Verdict::InfiniteReversed | Verdict::Reversed => Err(Reason::Reversed.at(place)),
+            Verdict::NotANumber => Err(Reason::NotANumber.at(place)),
         }
     }
 }
@@ -88,6 +71,24 @@ fn finite_verdict(range: Range, ordered: bool) -> Verdict
         return Verdict::Sound(range);
     }
     Verdict::Reversed
+}
+
+// The verdict on a range of floats. A sound range is told first, with an early return: opening asks this of every box, and
+// finds hardly any other.
+fn float_verdict<F: Float>(range: Range, low: F, high: F) -> Verdict
+    ensures { result ≡ verdict_on range (float_at_most F.format (F.pattern low) (F.pattern high))
+        (nan_bits F.format (F.pattern low) || nan_bits F.format (F.pattern high))
+        (infinite F.format (F.pattern low) || infinite F.format (F.pattern high)) }
+{
+    if low.finite_at_most(high) {
+        return Verdict::Sound(range);
+    }
+    other_verdict(
+        range,
+        low.at_most(high),
+        low.is_nan() || high.is_nan(),
+        low.is_infinite() || high.is_infinite(),
+    )
 }
 
 // The verdict on a range that is not sound: one end is NaN or not, the ends are in order or not, one is infinite or

@@ -15,8 +15,8 @@ use Rattle.description.proofs.Datatypes.{same_kind_lem}
 use Rattle.ranges.specs.declared.Range.{Range}
 use Rattle.ranges.specs.declared.Range.TheVariants.{I32, I64, F32, F64, U64}
 use Rattle.ranges.specs.Ranges.{Ends, ends, kind_of, ends_of, inside, meets}
-use Rattle.verdicts.specs.Verdicts.{verdict, stored_refusal, asked_refusal}
-use Rattle.verdicts.proofs.Judging.{verdict_on, verdict-on-is, stored-clear, stored-sound, asked-clear}
+use Rattle.verdicts.specs.Verdicts.{verdict_on, verdict, stored_refusal, asked_refusal}
+use Rattle.verdicts.proofs.Judging.{verdict-on-is, stored-clear, stored-sound, asked-clear}
 use Rattle.widened.specs.Widened.{widened_kind, widened_pattern, widened_end, widened_ends, widened_range}
 use Rattle.widened.proofs.Patterns.{end-infinite, end-at-most}
 

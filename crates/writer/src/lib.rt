@@ -15,14 +15,15 @@ ghost use Rattle.ranges.specs.Ranges.{ends_at};
 ghost use Rattle.boxes.specs.Least.{around};
 ghost use Rattle.tree.specs.Shape.{body_bytes, place_in, count_in};
 ghost use Rattle.written.specs.Body.{written_body};
-ghost use Rattle.written.specs.Writing.{write_answer, write_buffer};
+ghost use Rattle.written.specs.Writing.{told_writing, write_answer, write_buffer};
 ghost use Rattle.leaves.specs.Code.Sound.{box_in};
 ghost use Rattle.writer.specs.Code.Rows.{side_of, parent_of, level_of, LeastEnds, NoNan};
 ghost use Rattle.writer.specs.Code.Rows.{SideRow, Row, Levels, Filling};
 
+use answers::Refused;
 use description::{Description, Kind};
+use ints::Int;
 use ranges::Patterns;
-use written::Written;
 
 // The whole body goes to the start of the buffer, if it has the room.
 pub fn write(
@@ -31,18 +32,15 @@ pub fn write(
     fanout: u64,
     leaves: &[u8],
     out: &mut [u8],
-) -> Written
-    ensures answer { result ≡ write_answer description tiles fanout leaves.now
+) -> Result<u64, Refused>
+    ensures answer { told_writing result ≡ write_answer description tiles fanout leaves.now
         (length out.old) }
     ensures buffer { out.new ≡ write_buffer description tiles fanout leaves.now
         out.old }
 {
-    let told = leaves::check(description, tiles, fanout, leaves, out.len());
-    if told.number != 0 {
-        return told;
-    }
+    let bytes = leaves::check(description, tiles, fanout, leaves, out.len())?;
     fill(description, tiles as usize, fanout as usize, leaves, out);
-    told
+    Ok(bytes)
 }
 
 // From the leaves up; the fanout and the level number last.
@@ -58,10 +56,8 @@ fn fill(description: Description, tiles: usize, fanout: usize, leaves: &[u8], ou
     let start = tree::place_in(&table, 0);
     order::put_u64(out, start - 8, tiles as u64);
     order::copy(out, start, leaves);
-    let mut j: usize = 1;
-    while j < levels {
+    for j in 1..levels {
         put_level(out, description, fanout, &table, j);
-        j += 1;
     }
     order::put_u32(out, 0, fanout as u32);
     order::put_u32(out, 4, levels as u32);
@@ -102,13 +98,11 @@ fn put_rows(
         (join (parent_of description fanout (drop next out.old) count) 0 parents) }
 {
     let box_bytes = description.box_bytes();
-    let mut k: usize = 0;
-    while k < parents {
+    for k in 0..parents {
         let first = k * fanout;
         let len = tree::row_length(fanout, count, first);
         let at = start + k * box_bytes;
         put_box(out, description, box_bytes, next, first, len, at);
-        k += 1;
     }
 }
 
@@ -132,13 +126,10 @@ fn put_box(
     let kinds = description.kinds;
     let n = description::sides_of(description.dimensions);
     let mut side: usize = 0;
-    let mut i: usize = 0;
-    while i < n {
-        let d = kinds[i];
-        let kind = d.kind;
+    for i in 0..n {
+        let kind = kinds[i].kind;
         put_side(out, kind, box_bytes, start, side, first, count, at + side);
         side += kind.range_bytes();
-        i += 1;
     }
 }
 
@@ -199,14 +190,11 @@ fn least_by_key(
     let ends = ends_at(level, at, kind);
     let mut low = ends.low;
     let mut high = ends.high;
-    let last = first + count;
-    let mut k = first + 1;
-    while k < last {
+    for k in first + 1..first + count {
         at += box_bytes;
         let next = ends_at(level, at, kind);
         low = lower(kind, low, next.low);
         high = higher(kind, high, next.high);
-        k += 1;
     }
     Patterns { low, high }
 }
@@ -289,7 +277,7 @@ fn higher(kind: Kind, best: u64, next: u64) -> u64
 fn lower_i32(best: u32, next: u32) -> u32
     ensures { result ≡ cond (ltb (signed_key w32 next) (signed_key w32 best)) next best }
 {
-    if ints::i32_key(next) < ints::i32_key(best) {
+    if i32::key(next) < i32::key(best) {
         return next;
     }
     best
@@ -298,7 +286,7 @@ fn lower_i32(best: u32, next: u32) -> u32
 fn higher_i32(best: u32, next: u32) -> u32
     ensures { result ≡ cond (ltb (signed_key w32 best) (signed_key w32 next)) next best }
 {
-    if ints::i32_key(best) < ints::i32_key(next) {
+    if i32::key(best) < i32::key(next) {
         return next;
     }
     best
@@ -367,30 +355,14 @@ fn put_ends(out: &mut [u8], at: usize, kind: Kind, ends: Patterns)
 {
     match kind {
         Kind::Int32 | Kind::Float32 => {
-            put_pair32(
-                &mut out[at..at + 8],
-                ints::low_four(ends.low),
-                ints::low_four(ends.high),
-            );
+            let part = &mut out[at..at + 8];
+            order::put_u32(part, 0, ints::low_four(ends.low));
+            order::put_u32(part, 4, ints::low_four(ends.high));
         }
         Kind::Int64 | Kind::Float64 | Kind::Uint64 => {
-            put_pair64(&mut out[at..at + 16], ends.low, ends.high);
+            let part = &mut out[at..at + 16];
+            order::put_u64(part, 0, ends.low);
+            order::put_u64(part, 8, ends.high);
         }
     }
-}
-
-fn put_pair32(out: &mut [u8], low: u32, high: u32)
-    requires { length out.old ≡ 8 }
-    ensures { out.new ≡ bytes_of 4 low ++ bytes_of 4 high }
-{
-    order::put_u32(out, 0, low);
-    order::put_u32(out, 4, high);
-}
-
-fn put_pair64(out: &mut [u8], low: u64, high: u64)
-    requires { length out.old ≡ 16 }
-    ensures { out.new ≡ bytes_of 8 low ++ bytes_of 8 high }
-{
-    order::put_u64(out, 0, low);
-    order::put_u64(out, 8, high);
 }

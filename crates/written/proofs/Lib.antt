@@ -9,3 +9,4 @@ pub mod Room
 pub mod SameLeaves
 pub mod Fewest
 pub mod Rules
+pub mod Telling

@@ -1,9 +1,11 @@
 -- Writing a tree: its checks in order, its answer, and what the output buffer holds afterwards.
 -- Assumes nothing.
-use Rattle.std.specs.Prelude.{ℕ, ◌*◌, not, cond, List, [], ◌∷◌, ◌++◌, ltb, eqb, length, drop}
+use Rattle.std.specs.Prelude.{ℕ, Result, Ok, Err, ◌*◌, not, cond, List, [], ◌∷◌, ◌++◌, ltb, eqb, length, drop}
 use Rattle.answers.specs.Refusals as refusals
 use Rattle.answers.specs.Checks.{check, first, each}
 use Rattle.answers.specs.declared.Refusal.{Refusal}
+use Rattle.answers.specs.declared.Refused.{Refused}
+use Rattle.answers.specs.Told.{said}
 use Rattle.description.specs.declared.Description.{Description}
 use Rattle.description.specs.Limits.{least_tiles, least_fanout, most_fanout, outside}
 use Rattle.description.specs.Description.{sides_of, bytes_of_box}
@@ -19,6 +21,11 @@ refused_writing r = record { number = r.number; place = r.place; length = 0 }
 
 abbrev pub length_told : ℕ → Written
 length_told bytes = record { number = 0; place = 0; length = bytes }
+
+-- what code tells: the length, or what the error says
+unfoldable pub told_writing : Result ℕ Refused → Written
+told_writing (Ok bytes) = length_told bytes
+told_writing (Err e) = refused_writing (said e)
 
 -- 1, and what the rules say after it; 10, 13: what is checked of the description, n and f, which the caller gives
 unfoldable pub sizes_refusal_by : Rules → Description → ℕ → ℕ → Refusal

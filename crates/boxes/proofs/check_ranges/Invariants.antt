@@ -1,8 +1,7 @@
 -- `boxes::check_ranges` meets its contract. The loop's invariant: the place is where dimension i starts, and what all the ranges say is what
 -- those from i on say, since the ones before said nothing.
 -- Assumes nothing.
-use mathlib.Core.Path.{◌≡◌}
-use Prim.Native.Nat.{◌-◌, ◌≤◌}
+use Rattle.std.proofs.Common.{◌≡◌, ◌-◌}
 use Rattle.answers.specs.Checks.{each}
 use Rattle.description.specs.Description.{side_start}
 use Rattle.boxes.specs.Boxes.{ranges_refusal}
@@ -11,7 +10,4 @@ use Rattle.boxes.proofs.check_ranges.Given as goal
 
 abbrev pub invariant-loop-i : goal.invariant-loop-i
 invariant-loop-i l =
-    (l.i ≤ l.n) × (l.at ≡ side_start l.kinds l.i) × (ranges_refusal l.kinds l.n l.bytes 0 ≡ each (told_at l.kinds l.bytes 0) l.i (l.n - l.i))
-
-abbrev pub decreases-loop-i : goal.decreases-loop-i
-decreases-loop-i l = l.n - l.i
+    (l.at ≡ side_start l.kinds l.i) × (ranges_refusal l.kinds l.n l.bytes 0 ≡ each (told_at l.kinds l.bytes 0) l.i (l.n - l.i))

@@ -1,5 +1,4 @@
 -- `c_arguments::describe` meets its contract: each field by its own function. Assumes nothing.
-use borrow.Author.Rules.{rules}
 use Rattle.c_arguments.specs.Described.{describe}
 use Rattle.c_arguments.proofs.describe.Goals as goal
 

@@ -1,5 +1,4 @@
 -- `c_arguments::dimensions_of` meets its contract: the four in turn. Assumes nothing.
-use borrow.Author.Rules.{rules}
 use Rattle.answers.specs.Runs.{over}
 use Rattle.c_arguments.specs.Described.{numbered_dimensions}
 use Rattle.c_arguments.proofs.dimensions_of.Goals as goal

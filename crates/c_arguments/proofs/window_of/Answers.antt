@@ -1,5 +1,4 @@
 -- `c_arguments::window_of` meets its contract: the sides in turn, over what is read. Assumes nothing.
-use borrow.Author.Rules.{rules}
 use Rattle.answers.specs.Runs.{over}
 use Rattle.c_arguments.specs.Windows.{window_of_bytes}
 use Rattle.c_arguments.proofs.window_of.Goals as goal

@@ -11,7 +11,7 @@ use Rattle.c_query.proofs.ask_all.Goals as goal
 
 pub loop-i-init : goal.loop-i-init
 unfolding over
-loop-i-init c = (omega arith, (refl, (refl, refl)))
+loop-i-init c = (refl, (refl, refl))
 
 pub put_record-requires : goal.put_record-requires
 put_record-requires c =
@@ -21,12 +21,12 @@ put_record-requires c =
     let there : i < a.count = omega arith in
     let inv = c.loop-i.invariant in
     let all : length c.loop-i.answers ≡ length a.answers.now =
-    ap length inv.1.1.1 ∙ same-places a.d a.tiles a.tree.now ws a.out.now a.answers.now i (omega (arith, c.requires.1.1))
+    ap length inv.1.1 ∙ same-places a.d a.tiles a.tree.now ws a.out.now a.answers.now i (omega (arith, c.requires.1.1))
     in (
       omega (arith, c.requires.1.1),
       not-fewer a.d a.tiles a.tree.now ws a.out.now i (rw (windows-length a.d a.window_kinds.now a.windows.now a.count) there)
           (c.window_at-window.ensures ∙ sym (window-at a.d a.window_kinds.now a.windows.now a.count i there))
-          inv.1.0 inv.1.1.0 c.ask_from-asked.ensures.asked,
+          inv.0 inv.1.0 c.ask_from-asked.ensures.asked,
     )
 
 pub loop-i-preserved : goal.loop-i-preserved
@@ -42,14 +42,11 @@ loop-i-preserved c =
     ∙ sym (window-at a.d a.window_kinds.now a.windows.now a.count i there)
     in
     let asked = c.ask_from-asked.ensures in (
-      omega arith,
+      turn-used a.d a.tiles a.tree.now ws a.out.now i h this inv.0 inv.1.0 asked.asked,
       (
-        turn-used a.d a.tiles a.tree.now ws a.out.now i h this inv.1.0 inv.1.1.0 asked.asked,
-        (
-          turn-buffer a.d a.tiles a.tree.now ws a.out.now i h this inv.1.0 inv.1.1.0 asked.asked asked.buffer,
-          turn-record a.d a.tiles a.tree.now ws a.out.now i h this inv.1.0 inv.1.1.0 asked.asked a.answers.now
-              (omega (arith, c.requires.1.1)) inv.1.1.1 c.put_record.ensures,
-        ),
+        turn-buffer a.d a.tiles a.tree.now ws a.out.now i h this inv.0 inv.1.0 asked.asked asked.buffer,
+        turn-record a.d a.tiles a.tree.now ws a.out.now i h this inv.0 inv.1.0 asked.asked a.answers.now
+            (omega (arith, c.requires.1.1)) inv.1.1 c.put_record.ensures,
       ),
     )
 
@@ -57,10 +54,10 @@ pub returns-clause-answers : goal.returns-clause-answers
 returns-clause-answers c =
     let a = c.args in
     let done : c.loop-i.i ≡ a.count = omega arith in
-    c.loop-i.invariant.1.1.1 ∙ rw (done, windows-length a.d a.window_kinds.now a.windows.now a.count)
+    c.loop-i.invariant.1.1 ∙ rw (done, windows-length a.d a.window_kinds.now a.windows.now a.count)
 
 pub returns-clause-buffer : goal.returns-clause-buffer
 returns-clause-buffer c =
     let a = c.args in
     let done : c.loop-i.i ≡ a.count = omega arith in
-    c.loop-i.invariant.1.1.0 ∙ rw done (buffer-done a.d a.window_kinds.now a.windows.now a.count a.tiles a.tree.now a.out.now)
+    c.loop-i.invariant.1.0 ∙ rw done (buffer-done a.d a.window_kinds.now a.windows.now a.count a.tiles a.tree.now a.out.now)

@@ -1,12 +1,18 @@
 -- `c_values::numbered_bounds` meets its contract: by whether the number is a kind's. Assumes nothing.
-use mathlib.Core.Path.{sym, ◌∙◌}
+use Rattle.std.proofs.Common.{◌∙◌}
+use Rattle.tile_values.specs.Values.{bounds_answer}
 use Rattle.c_values.specs.Numbered.{numbered_bounds}
+use Rattle.c_values.proofs.OfKind.{some_kind, no_kind}
 use Rattle.c_values.proofs.numbered_bounds.Goals as goal
 
-pub returns-then-is_kind : goal.returns-then-is_kind
+pub returns-in-Some : goal.returns-in-Some
 unfolding numbered_bounds
-returns-then-is_kind c = rw (sym c.is_kind.ensures ∙ c.if-is_kind.true) (c.tile_bounds.ensures ∙ rw c.of.ensures)
+returns-in-Some c =
+    let a = c.args in
+    c.tile_bounds.ensures ∙ some_kind a.kind (λ k. bounds_answer k a.tiles a.mins.now a.maxes.now a.tile) _ c.in-Some.ensures
 
-pub returns-else-is_kind : goal.returns-else-is_kind
+pub returns-in-None : goal.returns-in-None
 unfolding numbered_bounds
-returns-else-is_kind c = rw (sym c.is_kind.ensures ∙ c.if-is_kind.false)
+returns-in-None c =
+    let a = c.args in
+    no_kind a.kind (λ k. bounds_answer k a.tiles a.mins.now a.maxes.now a.tile) _ c.in-None.ensures

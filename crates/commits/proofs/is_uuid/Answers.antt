@@ -11,20 +11,20 @@ returns-then-size-lt1 c = uuid-short c.args.text.now (omega arith)
 pub returns-then-size-gt-MOST_UUID : goal.returns-then-size-gt-MOST_UUID
 returns-then-size-gt-MOST_UUID c = uuid-long c.args.text.now (omega arith)
 
-pub loop-i-init : goal.loop-i-init
-loop-i-init c = (omega arith, uuid-is c.args.text.now (omega arith) (omega arith))
+pub loop-b-init : goal.loop-b-init
+loop-b-init c = uuid-is c.args.text.now (omega arith) (omega arith)
 
 pub returns-then-not-is_uuid_byte : goal.returns-then-not-is_uuid_byte
 returns-then-not-is_uuid_byte c =
     let x = c.args.text.now in
-    sym (c.loop-i.invariant.1 ∙ every-stop is_uuid_byte x c.loop-i.i (omega arith) (sym c.is_uuid_byte.ensures ∙ c.if-not-is_uuid_byte.true))
+    sym (c.loop-b.invariant ∙ every-stop is_uuid_byte x c.loop-b.b-index (omega arith) (sym c.is_uuid_byte.ensures ∙ c.if-not-is_uuid_byte.true))
 
-pub loop-i-preserved : goal.loop-i-preserved
-loop-i-preserved c =
+pub loop-b-preserved : goal.loop-b-preserved
+loop-b-preserved c =
     let x = c.args.text.now in
-    (omega arith, c.loop-i.invariant.1 ∙ every-next is_uuid_byte x c.loop-i.i (omega arith) (sym c.is_uuid_byte.ensures ∙ c.if-not-is_uuid_byte.false))
+    c.loop-b.invariant ∙ every-next is_uuid_byte x c.loop-b.b-index (omega arith) (sym c.is_uuid_byte.ensures ∙ c.if-not-is_uuid_byte.false)
 
 pub returns : goal.returns
 returns c =
     let x = c.args.text.now in
-    sym (c.loop-i.invariant.1 ∙ every-end is_uuid_byte x c.loop-i.i (omega arith))
+    sym (c.loop-b.invariant ∙ every-end is_uuid_byte x c.loop-b.b-index (omega arith))

@@ -1,25 +1,37 @@
 -- The lines of a listing as they are kept in a table, with chains of lines whose names have the same hash. Nothing here is
 -- promised to a caller.
 -- Assumes nothing.
-use Rattle.std.specs.Prelude.{ℕ, zero, suc, ◌+◌, ◌-◌, ◌*◌, ◌%◌, ◌^◌, ◌≤◌, ◌<◌, ◌≡◌, true, cond, List, [], ◌∷◌, eqb, length, get_or, set, take, drop}
+use Rattle.std.specs.Prelude.{ℕ, zero, suc, ◌+◌, ◌-◌, ◌*◌, ◌%◌, ◌^◌, ◌≤◌, ◌<◌, ◌≡◌, true, cond, List, [], ◌∷◌, eqb, length, get_or, take, drop, Option, Some, None}
+use Rattle.answers.specs.Refusals.{none}
 use Rattle.text.specs.Text.{Bytes, lines}
-use Rattle.commits.specs.declared.Name.{Name}
+use Rattle.commits.specs.declared.Kind.{Kind}
 use Rattle.commits.specs.declared.Record.{Record}
-use Rattle.commits.specs.declared.Indexed.{Indexed}
-use Rattle.commits.specs.Records.{is_name, time_of, is_record, kind_of, name_of}
+use Rattle.commits.specs.declared.Row.{Row}
+use Rattle.commits.specs.Records.{folder, wrt, con, ign, no_kind, is_name, time_of, is_record, kind_of, name_of}
 use Rattle.commits.specs.Committed.{line_in, most_lines, listing_refusal}
 
--- a name, and a record, as it is read
-pub record ReadName (n : Bytes) (r : Name) : Type 0 where
-  pub good : r.good ≡ is_name n
-  pub time : r.good ≡ true → r.time ≡ time_of n
+-- the number of a kind, and of what is read as one
+abbrev pub kind_code : Kind → ℕ
+kind_code Kind.Folder = folder
+kind_code Kind.Wrt = wrt
+kind_code Kind.Con = con
+kind_code Kind.Ign = ign
 
+abbrev pub number_read : Option Kind → ℕ
+number_read None = no_kind
+number_read (Some k) = kind_code k
+
+-- t2 of what is a name
+abbrev pub name_read : Bytes → Option ℕ
+name_read n = cond (is_name n) (Some (time_of n)) None
+
+-- a record, as it is read
 pub record ReadRecord (l : Bytes) (r : Record) : Type 0 where
-  pub good : r.good ≡ is_record l
-  pub inside : r.good ≡ true → r.name ≤ length l
-  pub name : r.good ≡ true → drop r.name l ≡ name_of l
-  pub kind : r.good ≡ true → r.kind ≡ kind_of l
-  pub time : r.good ≡ true → r.time ≡ time_of (name_of l)
+  pub fine : is_record l ≡ true
+  pub inside : r.name ≤ length l
+  pub name : drop r.name l ≡ name_of l
+  pub kind : kind_code r.kind ≡ kind_of l
+  pub time : r.time ≡ time_of (name_of l)
 
 -- the chain of a name, by its last 32 bytes
 unfoldable pub hash_from : ℕ → Bytes → ℕ
@@ -35,29 +47,27 @@ last_in ls h zero = 0
 last_in ls h (suc i) = cond (eqb (chain_of (name_of (line_in ls i))) h) (suc i) (last_in ls h i)
 
 -- a line: where its name stands, its kind, its time and its chain
-pub record Row (t l : Bytes) (from to kind time chain : ℕ) : Type 0 where
-  pub forward : from ≤ to
-  pub inside : to ≤ length t
-  pub name : take (to - from) (drop from t) ≡ name_of l
-  pub is : kind ≡ kind_of l
-  pub end : time ≡ time_of (name_of l)
-  pub in-chain : chain ≡ chain_of (name_of l)
+pub record RowOf (t l : Bytes) (r : Row) : Type 0 where
+  pub forward : r.start ≤ r.end
+  pub inside : r.end ≤ length t
+  pub name : take (r.end - r.start) (drop r.start t) ≡ name_of l
+  pub kind : kind_code r.kind ≡ kind_of l
+  pub late : r.time ≡ time_of (name_of l)
+  pub in-chain : r.chain ≡ chain_of (name_of l)
 
--- a line's row in a table, and a table with a row put into it
-abbrev pub RowAt : Bytes → Bytes → List ℕ → ℕ → Type 0
-RowAt t l rows i =
-    Row t l (get_or rows (5 * i) 0) (get_or rows (5 * i + 1) 0) (get_or rows (5 * i + 2) 0) (get_or rows (5 * i + 3) 0) (get_or rows (5 * i + 4) 0)
+-- row i of a table
+abbrev pub no_row : Row
+no_row = record { start = 0; end = 0; kind = Kind.Folder; time = 0; chain = 0 }
 
-abbrev pub rows_with : List ℕ → ℕ → ℕ → ℕ → ℕ → ℕ → ℕ → List ℕ
-rows_with rows i from to kind time chain =
-    set (set (set (set (set rows (5 * i) from) (5 * i + 1) to) (5 * i + 2) kind) (5 * i + 3) time) (5 * i + 4) chain
+abbrev pub row_at : List Row → ℕ → Row
+row_at rows i = get_or rows i no_row
 
 -- the first n lines have their rows
-pub record Table (t : Bytes) (n : ℕ) (rows : List ℕ) : Type 0 where
-  pub size : length rows ≡ 5 * most_lines
+pub record Table (t : Bytes) (n : ℕ) (rows : List Row) : Type 0 where
+  pub size : length rows ≡ most_lines
   pub few : n ≤ most_lines
   pub there : n ≤ length (lines t)
-  pub row : (i : ℕ) → i < n → RowAt t (line_in (lines t) i) rows i
+  pub row : (i : ℕ) → i < n → RowOf t (line_in (lines t) i) (row_at rows i)
 
 -- each of them leads to the one before it in its chain
 pub record Chains (t : Bytes) (n : ℕ) (next : List ℕ) : Type 0 where
@@ -69,14 +79,13 @@ pub record Heads (t : Bytes) (n : ℕ) (heads : List ℕ) : Type 0 where
   pub size : length heads ≡ most_lines
   pub last : (h : ℕ) → h < most_lines → get_or heads h 0 ≡ last_in (lines t) h n
 
-pub record Index (t : Bytes) (n : ℕ) (rows next heads : List ℕ) : Type 0 where
+pub record Index (t : Bytes) (n : ℕ) (rows : List Row) (next heads : List ℕ) : Type 0 where
   pub table : Table t n rows
   pub chains : Chains t n next
   pub ends : Heads t n heads
 
--- the whole listing, or its refusal
-pub record ReadListing (t : Bytes) (r : Indexed) (rows next heads : List ℕ) : Type 0 where
-  pub number : r.number ≡ (listing_refusal (lines t)).number
-  pub place : r.place ≡ (listing_refusal (lines t)).place
-  pub index : r.number ≡ 0 → Index t r.count rows next heads
-  pub whole : r.number ≡ 0 → r.count ≡ length (lines t)
+-- the whole listing
+pub record ReadListing (t : Bytes) (n : ℕ) (rows : List Row) (next heads : List ℕ) : Type 0 where
+  pub clear : listing_refusal (lines t) ≡ none
+  pub index : Index t n rows next heads
+  pub whole : n ≡ length (lines t)

@@ -4,6 +4,7 @@
 use mathlib.Core.Path.{◌∙◌}
 use native.Mathlib.Omega.{arith}
 use lib.ListN.{length}
+use Rattle.answers.specs.Told.{number_of}
 use Rattle.converter.proofs.Checked.{refused, kept, short, short-kept, told, filled, to_fill}
 use Rattle.converter.proofs.convert.Goals as goal
 
@@ -18,9 +19,10 @@ returns-then-told-ne0-clause-buffer c =
     kept x.description x.file_size x.footer.now x.body.now _ c.converted_length-told.ensures c.if-told-ne0.true x.out.now
 
 pub returns-then-out-told-clause-answer : goal.returns-then-out-told-clause-answer
+unfolding number_of
 returns-then-out-told-clause-answer c =
     let x = c.args in
-    c.answer.ensures ∙ short x.description x.file_size x.footer.now x.body.now _ c.converted_length-told.ensures c.if-told-ne0.false (length x.out.now) c.if-out-told.true
+    rw c.number.ensures at c.answer.ensures ∙ short x.description x.file_size x.footer.now x.body.now _ c.converted_length-told.ensures c.if-told-ne0.false (length x.out.now) c.if-out-told.true
 
 pub returns-then-out-told-clause-buffer : goal.returns-then-out-told-clause-buffer
 returns-then-out-told-clause-buffer c =

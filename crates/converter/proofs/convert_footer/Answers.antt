@@ -8,6 +8,7 @@ use Rattle.description.specs.Rules.{before}
 use Rattle.footer.specs.Answer.{checked_answer_by}
 use Rattle.rtree.proofs.Passed.{box-bytes-most}
 use Rattle.widened.specs.Widened.{widened_description}
+use Rattle.answers.specs.Told.{number_of}
 use Rattle.converter.proofs.Footers.{footer-refused, footer-kept, clear, domain-is, footer-length, footer-short, footer-short-kept, footer-told, footer-filled}
 use Rattle.converter.proofs.convert_footer.Goals as goal
 
@@ -26,6 +27,7 @@ returns-then-told-ne0-clause-buffer c =
     footer-kept x.description x.file_size x.footer.now c.check_by-told.result e c.if-told-ne0.true x.out.now
 
 pub returns-then-out-whole-clause-answer : goal.returns-then-out-whole-clause-answer
+unfolding number_of
 returns-then-out-whole-clause-answer c =
     let x = c.args in
     let e : c.check_by-told.result ≡ checked_answer_by before x.description x.file_size x.footer.now =
@@ -34,7 +36,7 @@ returns-then-out-whole-clause-answer c =
     let whole =
     footer-length x.description x.file_size x.footer.now c.check_by-told.result e c.if-told-ne0.false c.box_bytes-old.result c.box_bytes-wide.result
     c.box_bytes-old.ensures wide in
-    c.answer-then-out-whole.ensures ∙ footer-short x.description x.file_size x.footer.now c.check_by-told.result e c.if-told-ne0.false _ whole.1 (length x.out.now) c.if-out-whole.true
+    rw c.number.ensures at c.answer-then-out-whole.ensures ∙ footer-short x.description x.file_size x.footer.now c.check_by-told.result e c.if-told-ne0.false _ whole.1 (length x.out.now) c.if-out-whole.true
 
 pub returns-then-out-whole-clause-buffer : goal.returns-then-out-whole-clause-buffer
 returns-then-out-whole-clause-buffer c =

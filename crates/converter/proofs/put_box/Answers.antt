@@ -1,6 +1,5 @@
 -- `converter::put_box` meets its contract. The invariant: the buffer holds the first i sides, and both places are those
--- of side i. The measure is the number of sides that are left.
--- Assumes nothing.
+-- of side i. Assumes nothing.
 use Prim.Native.Nat.{ℕ, ◌+◌, ◌≤◌, ◌<◌}
 use mathlib.Core.List.{List}
 use mathlib.Core.Path.{◌≡◌, refl, sym, ap, ◌∙◌}

@@ -1,7 +1,6 @@
 -- `converter::put_box` meets its contract. The invariant: the buffer holds the first i sides, and both places are those
--- of side i. The measure is the number of sides that are left.
--- Assumes nothing.
-use Prim.Native.Nat.{◌+◌, ◌-◌, ◌≤◌}
+-- of side i. Assumes nothing.
+use Prim.Native.Nat.{◌+◌, ◌≤◌}
 use mathlib.Core.Path.{◌≡◌}
 use lib.ListN.{length}
 use lib.Seq.{sets}
@@ -17,6 +16,3 @@ invariant-loop-i l =
     × (l.to ≡ l.at + side_start (widened_kinds l.kinds) l.i)
     × (length l.out ≡ length l.initial.out)
     × (l.out ≡ sets l.initial.out l.at (sides_to l.kinds l.bytes l.i))
-
-abbrev pub decreases-loop-i : goal.decreases-loop-i
-decreases-loop-i l = l.n - l.i

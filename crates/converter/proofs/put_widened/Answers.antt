@@ -11,6 +11,6 @@ pub returns : goal.returns
 unfolding widened_side ends_at
 returns c =
     let x = c.args in
-    let low : c.widen.result ≡ widened_pattern (first_of_two x.bytes.now 0 4) = c.widen.ensures ∙ ap widened_pattern c.pair32_at-ends.ensures.0 in
-    let high : c.widen-2.result ≡ widened_pattern (second_of_two x.bytes.now 0 4) = c.widen-2.ensures ∙ ap widened_pattern c.pair32_at-ends.ensures.1 in
+    let low : c.widen.result ≡ widened_pattern (first_of_two x.bytes.now 0 4) = c.widen.ensures ∙ ap widened_pattern c.pair_at-ends.ensures.0 in
+    let high : c.widen-2.result ≡ widened_pattern (second_of_two x.bytes.now 0 4) = c.widen-2.ensures ∙ ap widened_pattern c.pair_at-ends.ensures.1 in
     pair-stored x.out.now _ _ 8 c.widen.result c.widen-2.result (omega arith) c.put_u64.ensures c.put_u64-2.ensures ∙ rw (low, high)

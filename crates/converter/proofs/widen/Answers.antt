@@ -17,23 +17,23 @@ use Rattle.converter.proofs.widen.Goals as goal
 number : (p : ℕ) → nan_bits binary32 p ≡ false → T (not (is_nan (of_bits binary32 p)))
 number p h = rw (← (nan_bits_is binary32 p)) (no_nan binary32 p h)
 
-pub returns-then-f32_nan_pattern : goal.returns-then-f32_nan_pattern
+pub returns-then-nan_pattern : goal.returns-then-nan_pattern
 unfolding widened_pattern to_bits
-returns-then-f32_nan_pattern c =
+returns-then-nan_pattern c =
     let p = c.args.p in
-    ap (to_bits binary64) (is-nan (of_bits binary32 p) (sym (nan_bits_is binary32 p) ∙ sym c.f32_nan_pattern.ensures ∙ c.if-f32_nan_pattern.true))
+    ap (to_bits binary64) (is-nan (of_bits binary32 p) (sym (nan_bits_is binary32 p) ∙ sym c.nan_pattern.ensures ∙ c.if-nan_pattern.true))
 
 pub float_to_float-y : goal.float_to_float-y
 float_to_float-y c =
     let plain : nan_bits binary32 c.args.p ≡ false
-    = sym c.f32_nan_pattern.ensures ∙ c.if-f32_nan_pattern.false in
+    = sym c.nan_pattern.ensures ∙ c.if-nan_pattern.false in
     let p = c.args.p in
     and_i (fits binary64 (of_bits binary32 p)) (not (is_nan (of_bits binary32 p))) (fits_widens (of_bits binary32 p) (of_bits-fits binary32 p)) (number p plain)
 
 pub float_to_bits-result : goal.float_to_bits-result
 float_to_bits-result c =
     let plain : nan_bits binary32 c.args.p ≡ false
-    = sym c.f32_nan_pattern.ensures ∙ c.if-f32_nan_pattern.false in
+    = sym c.nan_pattern.ensures ∙ c.if-nan_pattern.false in
     number c.args.p plain
 
 pub returns : goal.returns

@@ -1,38 +1,25 @@
--- `decimal::fill` meets its contract. The invariant: writing the digits of the rest over what the buffer holds now is writing those
--- of the number over what it held at first, and `last` is the place of the rest's last digit. The measure is the rest.
--- Assumes nothing.
-use Prim.Native.Nat.{◌/◌}
-use mathlib.Core.Path.{refl, ◌∙◌}
-use native.Mathlib.Omega.{arith}
-use lib.ListN.{length-set}
-use Rattle.decimal.proofs.Written.{length_more, some-digit}
-use Rattle.decimal.proofs.Put.{write-one, write-last}
+-- `decimal::fill` meets its contract: at first all digits are left, and at last none. Assumes nothing.
+use Rattle.std.proofs.Common.{◌≡◌, suc, ◌+◌, ◌-◌, length, arith, sym, ◌∙◌}
+use Rattle.decimal.specs.Decimal.{decimal}
+use Rattle.decimal.proofs.Put.{all-digits-of, write-one, none-left}
 use Rattle.decimal.proofs.fill.Goals as goal
 
-pub overflow_sub-last : goal.overflow_sub-last
-overflow_sub-last c = omega (arith, some-digit c.args.n)
+pub loop-place-init : goal.loop-place-init
+loop-place-init c =
+    let x = c.args in
+    let z : x.at + x.count - x.at ≡ length (decimal x.n) = omega (arith, c.requires.0) in
+    rw (z, all-digits-of x.n)
 
-pub loop-rest-init : goal.loop-rest-init
-loop-rest-init c = (omega (arith, some-digit c.args.n), omega (arith, some-digit c.args.n), refl, refl)
-
-pub overflow_sub-last-in-loop-rest : goal.overflow_sub-last-in-loop-rest
-overflow_sub-last-in-loop-rest c = let l = c.loop-rest in omega (arith, length_more l.rest (omega arith), some-digit (l.rest / 10))
-
-pub loop-rest-preserved : goal.loop-rest-preserved
-loop-rest-preserved c =
-    let l = c.loop-rest in
-    let more = length_more l.rest (omega arith) in
-    let some = some-digit (l.rest / 10) in
-    let same = length-set l.out l.last c.digit.result in
-    let at = c.args.at in (
-      omega arith,
-      omega arith,
-      omega arith,
-      rw c.digit.ensures (write-one l.out at l.rest l.last (omega arith) l.invariant.0) ∙ l.invariant.3,
-    )
+pub loop-place-preserved : goal.loop-place-preserved
+loop-place-preserved c =
+    let l = c.loop-place in
+    let at = c.args.at in
+    let k = l.place - 1 - at in
+    let more : l.place - at ≡ suc k = omega arith in
+    rw c.digit.ensures (write-one l.out at k l.rest (omega arith)) ∙ (rw more at l.invariant)
 
 pub returns : goal.returns
 returns c =
-    let l = c.loop-rest in
-    let at = c.args.at in
-    rw c.digit-2.ensures (write-last l.out at l.rest l.last (omega arith) l.invariant.0) ∙ l.invariant.3
+    let l = c.loop-place in
+    let z : l.place - c.args.at ≡ 0 = omega arith in
+    sym (none-left l.out c.args.at l.rest) ∙ (rw z at l.invariant)

@@ -1,31 +1,28 @@
--- `decimal::next` meets its contract: each test of the code is one of the definition's. Assumes nothing.
-use native.Mathlib.Omega.{arith}
-use borrow.Author.Tests.{le-leb, lt-leb}
-use Rattle.decimal.specs.Read.{read_next}
-use Rattle.decimal.proofs.Steps.{next_past, next_fits}
+-- `decimal::next` meets its contract: a byte that is no digit, a number that 64 bits do not hold, and one past the most
+-- are no fit. Assumes nothing.
+use Rattle.std.proofs.Common.{◌≡◌, ◌+◌, ◌-◌, ◌*◌, arith, sym, ap, ◌∙◌}
+use Rattle.std.specs.Prelude.{Some}
+use Rattle.decimal.proofs.Steps.{next_other, next_past, next_fits}
 use Rattle.decimal.proofs.next.Goals as goal
 
-pub returns-then-byte-lt48 : goal.returns-then-byte-lt48
-unfolding read_next
-returns-then-byte-lt48 c = rw (lt-leb 48 c.args.byte (omega arith))
+pub returns-then-not-is_ascii_digit : goal.returns-then-not-is_ascii_digit
+returns-then-not-is_ascii_digit c = next_other c.args.most c.args.value c.args.byte (sym c.if-not-is_ascii_digit.ensures.value)
 
-pub returns-then-byte-gt57 : goal.returns-then-byte-gt57
-unfolding read_next
-returns-then-byte-gt57 c =
-    let b = c.args.byte in
-    rw (le-leb 48 b (omega arith), lt-leb b 57 (omega arith))
+pub returns-in_err-checked_mul : goal.returns-in_err-checked_mul
+returns-in_err-checked_mul c =
+    c.from_residual.ensures ∙ next_past c.args.most c.args.value c.args.byte (omega (arith, c.in_err-checked_mul.ensures))
 
-pub returns-then-most-value : goal.returns-then-most-value
-returns-then-most-value c =
+pub returns-in_err-next : goal.returns-in_err-next
+returns-in_err-next c =
+    c.from_residual-in_err-next.ensures
+    ∙ next_past c.args.most c.args.value c.args.byte (omega (arith, c.in_err-next.ensures, c.in_ok-checked_mul.ensures))
+
+pub returns-then-next-most : goal.returns-then-next-most
+returns-then-next-most c =
     let x = c.args in
-    next_past x.most x.value x.byte (omega arith) (omega arith) (omega arith)
+    let e : c.in_ok-next.next ≡ 10 * x.value + (x.byte - 48) = omega (arith, c.in_ok-next.ensures, c.in_ok-checked_mul.ensures) in
+    ap Some e ∙ next_fits x.most x.value x.byte (sym c.if-not-is_ascii_digit.ensures.value) (omega arith)
 
-pub returns-then-most-value-2 : goal.returns-then-most-value-2
-returns-then-most-value-2 c =
-    let x = c.args in
-    next_past x.most x.value x.byte (omega arith) (omega arith) (omega arith)
-
-pub returns : goal.returns
-returns c =
-    let x = c.args in
-    next_fits x.most x.value x.byte (omega arith) (omega arith) (omega arith)
+pub returns-else-next-most : goal.returns-else-next-most
+returns-else-next-most c =
+    next_past c.args.most c.args.value c.args.byte (omega (arith, c.in_ok-next.ensures, c.in_ok-checked_mul.ensures))

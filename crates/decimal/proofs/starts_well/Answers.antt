@@ -1,22 +1,20 @@
 -- `decimal::starts_well` meets its contract: each test of the code is one of the definition's. Assumes nothing.
-use native.Mathlib.Omega.{arith}
-use lib.ListN.{length}
-use borrow.Author.Tests.{lt-ltb, le-ltb, eq-eqb, ne_eqb}
+use Rattle.std.proofs.Common.{arith, length, lt-ltb, le-ltb, eq-eqb, ne_eqb}
 use Rattle.decimal.specs.Decimal.{starts_well}
 use Rattle.decimal.proofs.starts_well.Goals as goal
 
-pub returns-then-count-eq0 : goal.returns-then-count-eq0
+pub returns-in-empty : goal.returns-in-empty
 unfolding starts_well
-returns-then-count-eq0 c = rw (le-ltb 0 (length c.args.text.now) (omega arith))
+returns-in-empty c = rw (le-ltb 0 (length c.args.text.now) (omega arith))
 
-pub returns-then-count-eq1 : goal.returns-then-count-eq1
+pub returns-in-len1 : goal.returns-in-len1
 unfolding starts_well
-returns-then-count-eq1 c =
+returns-in-len1 c =
     let n = length c.args.text.now in
     rw (lt-ltb 0 n (omega arith), eq-eqb n 1 (omega arith))
 
-pub returns : goal.returns
+pub returns-in-len1-up : goal.returns-in-len1-up
 unfolding starts_well
-returns c =
+returns-in-len1-up c =
     let n = length c.args.text.now in
-    rw (lt-ltb 0 n (omega arith), ne_eqb n 1 c.if-count-eq1.false)
+    rw (lt-ltb 0 n (omega arith), ne_eqb n 1 (omega arith))

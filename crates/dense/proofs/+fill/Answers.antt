@@ -40,16 +40,13 @@ returns-then-more-eq1 t c =
 pub returns-then-out-next : goal.returns-then-out-next
 returns-then-out-next t c =
     let x = c.args in
-    filled-as _ (run_of x.axes x.k x.more x.tile) (no_room c.loop-t.invariant.2 c.if-out-next.true)
+    filled-as _ (run_of x.axes x.k x.more x.tile) (no_room c.loop-t.invariant.1 c.if-out-next.true)
 
 pub fill-next-requires : goal.fill-next-requires
 fill-next-requires t c =
     let x = c.args in
     let some = pos_of_ne-zero c.if-more-eq0.false in
     (omega (arith, c.decreases), held_next x.axes x.k x.more x.tile c.requires _ some c.loop-t-test.true)
-
-pub overflow_add-t : goal.overflow_add-t
-overflow_add-t t c = omega (arith, end_below c.args.axes c.args.k c.args.more c.args.tile c.requires, c.loop-t-test.true)
 
 pub loop-t-preserved : goal.loop-t-preserved
 loop-t-preserved t c =
@@ -59,10 +56,10 @@ loop-t-preserved t c =
     let g = numbers_of x.axes (x.k + 1) in
     let z : x.more - 1 + 1 ≡ x.more = omega arith in
     let f = filled-as _ (ap (λ (m : ℕ). g m l.t) z) c.fill-next.ensures in
-    let n = filled_next (g x.more) l.t _ c.loop-t-test.true l.invariant.2 f in
-    (omega (arith, l.invariant.0), same_size n, n)
+    let n = filled_next (g x.more) l.t _ c.loop-t-test.true l.invariant.1 f in
+    (same_size n, n)
 
 pub returns : goal.returns
 returns t c =
     let x = c.args in
-    filled-as _ (run_of x.axes x.k x.more x.tile) (all-stored _ _ _ c.loop-t-test.false c.loop-t.invariant.2)
+    filled-as _ (run_of x.axes x.k x.more x.tile) (all-stored _ _ _ c.loop-t-test.false c.loop-t.invariant.1)

@@ -1,14 +1,15 @@
 -- `dense::check_query` meets its contract: the grid, then the window.
 -- Assumes nothing.
-use mathlib.Core.Path.{◌∙◌}
-use Rattle.answers.proofs.Checks.{join-next}
+use Rattle.std.proofs.Common.{sym, ◌∙◌}
+use Rattle.answers.proofs.Told.{stops, passes, ends, exits}
 use Rattle.dense.specs.Dense.{dense_refusal}
-use Rattle.dense.proofs.Told.{window-none, two-checks}
 use Rattle.dense.proofs.check_query.Goals as goal
+
+pub returns-in_err-check_grid : goal.returns-in_err-check_grid
+unfolding dense_refusal
+returns-in_err-check_grid c = exits _ _ c.from_residual.ensures.1 (stops c.check_grid.ensures _ c.in_err-check_grid.was)
 
 pub returns : goal.returns
 unfolding dense_refusal
 returns c =
-    let x = c.args in
-    join-next c.or.ensures c.check_grid.ensures c.check_window.ensures
-    ∙ two-checks _ _ (window-none x.description x.window)
+    c.check_window.ensures ∙ sym (passes c.check_grid.ensures _ c.in_ok-check_grid.was ∙ ends _ _ c.check_window.ensures)

@@ -1,22 +1,22 @@
 -- `dense::check_splits` meets its contract.
 -- Assumes nothing.
-use mathlib.Core.Path.{sym, ◌∙◌}
-use native.Mathlib.Omega.{arith}
-use Rattle.answers.proofs.Checks.{past-left, stop-left, none_left}
-use Rattle.dense.proofs.check_splits.Invariants.{told}
+use Rattle.std.proofs.Common.{sym, ◌∙◌}
+use Rattle.answers.proofs.Told.{passes-left, stops-left, done-left, exits}
+use Rattle.dense.proofs.check_splits.Invariants.{split-told}
 use Rattle.dense.proofs.check_splits.Goals as goal
 
-pub returns-then-told-ne0 : goal.returns-then-told-ne0
-returns-then-told-ne0 c =
-    let g = told c.args.sides c.args.extents in
-    sym (c.loop-i.invariant.1 ∙ stop-left g _ _ _ c.loop-i-test.true c.check_split-told.ensures c.if-told-ne0.true)
+pub returns-in_err-check_split : goal.returns-in_err-check_split
+returns-in_err-check_split c =
+    let g = split-told c.args.sides c.args.extents in
+    exits _ _ c.from_residual.ensures.1
+    (stops-left g _ _ c.loop-i-test.true c.check_split.ensures c.in_err-check_split.was ∙ sym c.loop-i.invariant)
 
 pub loop-i-preserved : goal.loop-i-preserved
 loop-i-preserved c =
-    let g = told c.args.sides c.args.extents in
-    (omega (arith, c.loop-i-test), c.loop-i.invariant.1 ∙ past-left g _ _ _ c.loop-i-test.true c.check_split-told.ensures c.if-told-ne0.false)
+    let g = split-told c.args.sides c.args.extents in
+    c.loop-i.invariant ∙ passes-left g _ _ c.loop-i-test.true c.check_split.ensures c.in_ok-check_split.was
 
 pub returns : goal.returns
 returns c =
-    let g = told c.args.sides c.args.extents in
-    c.none.ensures ∙ sym (c.loop-i.invariant.1 ∙ none_left g _ _ (omega (arith, c.loop-i-test)))
+    let g = split-told c.args.sides c.args.extents in
+    done-left g _ _ c.loop-i-test.false ∙ sym c.loop-i.invariant

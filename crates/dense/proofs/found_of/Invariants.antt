@@ -1,12 +1,8 @@
 -- The invariant of `dense::found_of`: what is multiplied so far and the spans to come make the whole, capped.
 -- Assumes nothing.
-use Prim.Native.Nat.{◌-◌}
 use Rattle.dense.specs.Code.Spans.{span_at}
 use Rattle.dense.proofs.Capping.{Multiplied}
 use Rattle.dense.proofs.found_of.Given as goal
 
 abbrev pub invariant-loop-k : goal.invariant-loop-k
 invariant-loop-k l = Multiplied (span_at l.axes) l.n l.found l.k
-
-abbrev pub decreases-loop-k : goal.decreases-loop-k
-decreases-loop-k l = l.n - l.k

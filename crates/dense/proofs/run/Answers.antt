@@ -13,8 +13,8 @@ use Rattle.dense.proofs.run.Goals as goal
 pub loop-t-preserved : goal.loop-t-preserved
 loop-t-preserved c =
     let l = c.loop-t in
-    let n = filled_next (λ i. i ∷ []) l.t _ (omega arith) l.invariant.5 (stored_one l.out l.next l.t) in
-    (omega arith, omega arith, omega arith, l.invariant.3, same_size n, n)
+    let n = filled_next (λ i. i ∷ []) l.t _ (omega arith) l.invariant.3 (stored_one l.out l.next l.t) in
+    (omega arith, l.invariant.1, same_size n, n)
 
 ended : {before : List ℕ} {at : ℕ} {xs now : List ℕ} {next : ℕ} (t end : ℕ) → Dec (end ≤ t) → (t < end → length now ≤ next)
     → Left before at xs now next (these t end) → Filled before at xs now next
@@ -24,4 +24,4 @@ ended t end (no h) full l = no_room l (full (omega arith))
 pub returns : goal.returns
 returns c =
     let l = c.loop-t in
-    ended l.t _ (dec_le _ l.t) (λ h. omega arith) l.invariant.5
+    ended l.t _ (dec_le _ l.t) (λ h. omega arith) l.invariant.3

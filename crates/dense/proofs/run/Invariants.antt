@@ -3,7 +3,7 @@
 -- Assumes nothing.
 use mathlib.Core.Path.{◌≡◌}
 use mathlib.Core.List.{List, [], ◌∷◌}
-use Prim.Native.Nat.{ℕ, ◌+◌, ◌-◌, ◌≤◌, min}
+use Prim.Native.Nat.{ℕ, ◌+◌, ◌-◌, min}
 use lib.ListN.{length}
 use Rattle.answers.specs.Runs.{join}
 use Rattle.dense.proofs.Storing.{Left}
@@ -15,8 +15,5 @@ these a b = join (λ i. i ∷ []) a (b - a)
 
 abbrev pub invariant-loop-t : goal.invariant-loop-t
 invariant-loop-t l =
-    (l.start ≤ l.t) × (l.t ≤ l.stop) × (l.next + l.start ≡ l.at + l.t) × (l.stop ≡ l.start + min (l.end - l.start) (length l.initial.out - l.at))
+    (l.next + l.start ≡ l.at + l.t) × (l.stop ≡ l.start + min (l.end - l.start) (length l.initial.out - l.at))
     × (length l.out ≡ length l.initial.out) × Left l.initial.out l.at (these l.start l.end) l.out l.next (these l.t l.end)
-
-abbrev pub decreases-loop-t : goal.decreases-loop-t
-decreases-loop-t l = l.stop - l.t

@@ -1,6 +1,5 @@
 -- The invariant of `dense::tiles_of`: what is multiplied so far and the dimensions to come make the whole, capped.
 -- Assumes nothing.
-use Prim.Native.Nat.{◌-◌}
 use lib.ListN.{get_or}
 use Rattle.boxes.specs.Boxes.{range_in}
 use Rattle.dense.specs.Dense.{tiles_along}
@@ -9,6 +8,3 @@ use Rattle.dense.proofs.tiles_of.Given as goal
 
 abbrev pub invariant-loop-i : goal.invariant-loop-i
 invariant-loop-i l = Multiplied (λ j. tiles_along (range_in l.sides j) (get_or l.extents j 0)) l.n l.tiles l.i
-
-abbrev pub decreases-loop-i : goal.decreases-loop-i
-decreases-loop-i l = l.n - l.i

@@ -1,13 +1,12 @@
 -- Along one dimension the tiles that meet are those of one run; so the tiles touched are runs of runs.
 -- Assumes nothing.
-use Rattle.std.specs.Prelude.{ℕ, zero, suc, ◌+◌, ◌-◌, ◌*◌, ◌/◌, ◌≤◌, ◌<◌, min, ◌≡◌, Bool, true, false, ◌&&◌, cond, List, [], ◌∷◌, ◌++◌, leb, get_or}
+use Rattle.std.specs.Prelude.{ℕ, zero, suc, ◌+◌, ◌-◌, ◌*◌, ◌/◌, ◌≤◌, ◌<◌, min, ◌≡◌, Bool, ◌&&◌, cond, List, [], ◌∷◌, ◌++◌, leb, get_or}
 use Rattle.std.proofs.lemmas.List.Edits.{sets}
 use Rattle.answers.specs.Runs.{join, filled}
 use Rattle.description.specs.Limits.{most_tiles}
 use Rattle.boxes.specs.declared.Side.{Side}
 use Rattle.boxes.specs.Boxes.{range_in}
 use Rattle.dense.specs.declared.Order.{Order}
-use Rattle.dense.specs.declared.Order.TheVariants.{RowMajor, ColumnMajor}
 use Rattle.dense.specs.declared.Axis.{Axis}
 use Rattle.dense.specs.Grid.{product}
 use Rattle.dense.specs.Dense.{low_key, high_key, split_refusal, dimension_of}
@@ -45,11 +44,6 @@ axis_at domain extents window i =
     let r = range_in domain i in
     let w = range_in window i in
     axis_of (low_key r) (high_key r) (get_or extents i 0) (low_key w) (high_key w)
-
--- the order by which the last dimension is the fastest
-abbrev pub is_row_major : Order → Bool
-is_row_major RowMajor = true
-is_row_major ColumnMajor = false
 
 -- the axes of n dimensions, from the slowest to the fastest
 unfoldable pub axes_of : Order → ℕ → List Side → List ℕ → List Side → List Axis

@@ -1,30 +1,25 @@
--- `entries::check_entries` meets its contract: the header's refusal ends the check, and else the loop's outcome
--- decides. Assumes nothing.
-use mathlib.Core.Path.{sym, ◌∙◌}
-use native.Mathlib.Omega.{arith}
-use borrow.Author.Tests.{ne_eqb}
+-- `entries::check_entries` meets its contract: the header's refusal ends the check, and else the loop decides.
+-- Assumes nothing.
+use Rattle.std.proofs.Common.{arith}
+use Rattle.std.proofs.lemmas.Result.{err_from_is_err_and}
+use Rattle.answers.specs.Told.{told}
+use Rattle.answers.proofs.Told.{ok-clear, stops}
+use Rattle.lists.specs.Lists.{entries_refusal_by}
 use Rattle.lists.proofs.Header.{sound}
-use Rattle.entries.proofs.Entries.{cleared, header-stops, entries-answered}
+use Rattle.entries.proofs.Entries.{entries-decide}
 use Rattle.entries.proofs.check_entries.Goals as goal
 
-pub returns-then-number-ne0 : goal.returns-then-number-ne0
-returns-then-number-ne0 c =
-    let e = c.requires in
-    rw (header-stops _ _ _ _ (λ z. c.if-number-ne0.true (cleared (sym e) z)), ← e, ne_eqb _ 0 c.if-number-ne0.true)
+pub returns-in_err-check_list : goal.returns-in_err-check_list
+unfolding told entries_refusal_by
+returns-in_err-check_list g c =
+    let p = err_from_is_err_and c.from_residual.result c.from_residual.ensures.1 in
+    rw (p.1, p.2) (stops c.check_list.ensures _ c.in_err-check_list.was)
 
 pub scan-requires : goal.scan-requires
-scan-requires c =
-    let known = sound _ 8 _ (cleared c.requires c.if-number-ne0.false) in
+scan-requires g c =
+    let known = sound _ 8 _ (ok-clear c.check_list.ensures c.in_ok-check_list.was) in
     omega arith
 
-pub returns-in-Bad : goal.returns-in-Bad
-returns-in-Bad c =
-    let r = c in
-    let clear = cleared r.requires r.if-number-ne0.false in
-    rw c.number_of.ensures (rw r.in-Bad.is at r.scan.ensures ∙ entries-answered r.args.rule _ _ clear)
-
-pub returns-in-Whole : goal.returns-in-Whole
-returns-in-Whole c =
-    let r = c in
-    let clear = cleared r.requires r.if-number-ne0.false in
-    rw r.in-Whole.is at r.scan.ensures ∙ entries-answered r.args.rule _ _ clear
+pub returns : goal.returns
+returns g c =
+    rw (entries-decide _ _ _ _ (ok-clear c.check_list.ensures c.in_ok-check_list.was)) c.scan.ensures

@@ -1,20 +1,59 @@
--- `footer::check_before_tiles` meets its contract: what the code joins is what the definition lists. Assumes nothing.
-use mathlib.Core.Path.{◌∙◌}
-use Prim.Native.Nat.{◌+◌}
-use lib.ListN.{take, drop}
-use Rattle.answers.proofs.Checks.{join-next}
-use Rattle.description.specs.Description.{sides_of, bytes_of_box}
-use Rattle.boxes.specs.Boxes.{ranges_refusal}
-use Rattle.footer.proofs.Parts.{before-joined}
+-- `footer::check_before_tiles` meets its contract: each check of the list in turn. Assumes nothing.
+use Rattle.std.proofs.Common.{sym, ◌∙◌}
+use Rattle.answers.specs.Told.{number_of}
+use Rattle.answers.proofs.Told.{stops, passes, ends, exits}
+use Rattle.footer.proofs.Parts.{before-listed}
 use Rattle.footer.proofs.check_before_tiles.Goals as goal
 
+pub returns-in_err-check_flag : goal.returns-in_err-check_flag
+unfolding number_of
+returns-in_err-check_flag c =
+    let a = c.args in
+    exits _ _ c.from_residual.ensures.1
+    (stops c.check_flag.ensures _ c.in_err-check_flag.was ∙ before-listed a.entry a.description a.bytes.now a.dense c.requires.0)
+
+pub returns-in_err-check_is : goal.returns-in_err-check_is
+unfolding number_of
+returns-in_err-check_is c =
+    let a = c.args in
+    exits _ _ c.from_residual-in_err-check_is.ensures.1
+    (stops c.check_is.ensures _ c.in_err-check_is.was
+    ∙ sym (passes c.check_flag.ensures _ c.in_ok-check_flag.was)
+    ∙ before-listed a.entry a.description a.bytes.now a.dense c.requires.0)
+
+pub returns-in_err-check_flag-2 : goal.returns-in_err-check_flag-2
+unfolding number_of
+returns-in_err-check_flag-2 c =
+    let a = c.args in
+    exits _ _ c.from_residual-in_err-check_flag-2.ensures.1
+    (stops c.check_flag-2.ensures _ c.in_err-check_flag-2.was
+    ∙ sym (passes c.check_flag.ensures _ c.in_ok-check_flag.was ∙ passes c.check_is.ensures _ c.in_ok-check_is.was)
+    ∙ before-listed a.entry a.description a.bytes.now a.dense c.requires.0)
+
+pub returns-in_err-check_is-2 : goal.returns-in_err-check_is-2
+unfolding number_of
+returns-in_err-check_is-2 c =
+    let a = c.args in
+    exits _ _ c.from_residual-in_err-check_is-2.ensures.1
+    (stops c.check_is-2.ensures _ c.in_err-check_is-2.was
+    ∙ sym (
+    passes c.check_flag.ensures _ c.in_ok-check_flag.was
+    ∙ passes c.check_is.ensures _ c.in_ok-check_is.was
+    ∙ passes c.check_flag-2.ensures _ c.in_ok-check_flag-2.was
+    )
+    ∙ before-listed a.entry a.description a.bytes.now a.dense c.requires.0)
+
 pub returns : goal.returns
+unfolding number_of
 returns c =
     let a = c.args in
-    let d = a.description in
-    let bytes = a.bytes.now in
-    let j1 = join-next c.or.ensures c.check_flag.ensures c.check_is.ensures in
-    let j2 = join-next c.or-2.ensures j1 c.check_flag-2.ensures in
-    let j3 = join-next c.or-3.ensures j2 c.check_is-2.ensures in
-    join-next {s' = ranges_refusal d.kinds (sides_of d.dimensions) (take (bytes_of_box d) (drop (a.dense + 2) bytes)) (a.dense + 2)} c.or-4.ensures j3 c.check_domain.ensures
-    ∙ before-joined a.entry d bytes a.dense c.requires.0
+    let domain = c.check_domain.ensures in
+    domain
+    ∙ sym (
+    passes c.check_flag.ensures _ c.in_ok-check_flag.was
+    ∙ passes c.check_is.ensures _ c.in_ok-check_is.was
+    ∙ passes c.check_flag-2.ensures _ c.in_ok-check_flag-2.was
+    ∙ passes c.check_is-2.ensures _ c.in_ok-check_is-2.was
+    ∙ ends _ _ domain
+    )
+    ∙ before-listed a.entry a.description a.bytes.now a.dense c.requires.0

@@ -1,23 +1,24 @@
--- `footer::check_head` meets its contract: what the code joins is what the definition lists, the first two fields at 0 and 4. Assumes nothing.
-use mathlib.Core.Path.{◌≡◌, ◌∙◌}
-use mathlib.Core.List.{[], ◌∷◌}
-use native.Mathlib.Omega.{arith}
-use Rattle.answers.specs.Refusals as refusals
-use Rattle.answers.specs.Checks.{otherwise}
-use Rattle.answers.proofs.Checks.{join-next, joined-first}
-use Rattle.order.specs.Little.{little}
-use Rattle.description.specs.Limits.{least_version, most_version, least_name, most_name, outside}
-use Rattle.description.specs.Description.{limits_refusal}
-use Rattle.footer.specs.Fields.{start, number_outside}
+-- `footer::check_head` meets its contract: each check of the list in turn. Assumes nothing.
+use Rattle.std.proofs.Common.{sym, ◌∙◌}
+use Rattle.answers.specs.Told.{number_of}
+use Rattle.answers.proofs.Told.{stops, passes, ends, exits}
+use Rattle.footer.specs.Fields.{number_outside}
 use Rattle.footer.proofs.check_head.Goals as goal
 
+pub returns-in_err-when : goal.returns-in_err-when
+unfolding number_of
+returns-in_err-when c = exits _ _ c.from_residual.ensures.1 (stops c.when.ensures _ c.in_err-when.was)
+
+pub returns-in_err-when-2 : goal.returns-in_err-when-2
+unfolding number_of number_outside
+returns-in_err-when-2 c =
+    let version = rw (c.outside-unknown.ensures, c.u32_at.ensures) at c.when-2.ensures in
+    exits _ _ c.from_residual-in_err-when-2.ensures.1
+    (stops version _ c.in_err-when-2.was ∙ sym (passes c.when.ensures _ c.in_ok-when.was))
+
 pub returns : goal.returns
-unfolding start number_outside
+unfolding number_of number_outside
 returns c =
-    let a = c.args in
-    let j0 : c.or.result ≡ otherwise (limits_refusal a.description) a.entry.further = c.or.ensures ∙ rw c.check_limits.ensures in
-    let j1 = join-next c.or-2.ensures j0 c.when.ensures in
-    let e : c.when-2.result ≡ number_outside a.bytes.now 4 least_version most_version refusals.version 0 =
-    c.when-2.ensures ∙ rw (c.outside-unknown.ensures, c.u32_at.ensures) in
-    join-next c.or-4.ensures (join-next c.or-3.ensures j1 e) c.check_number.ensures
-    ∙ joined-first _ (_ ∷ _ ∷ _ ∷ []) (outside least_name most_name (little a.bytes.now 4 8)) refusals.the_name_size 4 (omega arith)
+    let version = rw (c.outside-unknown.ensures, c.u32_at.ensures) at c.when-2.ensures in
+    let name = c.check_number.ensures in
+    name ∙ sym (passes c.when.ensures _ c.in_ok-when.was ∙ passes version _ c.in_ok-when-2.was ∙ ends _ _ name)

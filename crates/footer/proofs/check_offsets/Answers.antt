@@ -1,36 +1,38 @@
--- `footer::check_offsets` meets its contract. The invariant: what the definition says of all the offsets is what it says of those from i on.
--- Assumes nothing.
-use mathlib.Core.Path.{refl, sym, ◌∙◌}
-use native.Mathlib.Omega.{arith}
-use borrow.Author.Rules.{rules}
-use borrow.Author.Tests.{lt-ltb, le-ltb}
+-- `footer::check_offsets` meets its contract. Assumes nothing.
+use Rattle.std.proofs.Common.{◌≡◌, ℕ, not, leb, ltb, sym, ◌∙◌, arith}
+use Rattle.std.proofs.lemmas.Bool.Decides.{nat_tests}
 use Rattle.answers.specs.Refusals.{none}
 use Rattle.answers.specs.Checks.{otherwise}
+use Rattle.answers.specs.Told.{number_of}
 use Rattle.answers.proofs.Runs.{over-start}
-use Rattle.answers.proofs.Checks.{none_left, past-left, stop-left}
+use Rattle.answers.proofs.Told.{passes-left, stops-left, done-left, exits}
 use Rattle.footer.specs.Fields.{file_offsets_refusal}
 use Rattle.footer.proofs.check_offsets.Invariants.{said}
 use Rattle.footer.proofs.check_offsets.Goals as goal
 
+not-below : (a b : ℕ) → leb a b ≡ not (ltb b a)
+not-below a b = grind (arith, nat_tests)
+
 pub loop-i-init : goal.loop-i-init
 unfolding file_offsets_refusal said
-loop-i-init c = (omega arith, over-start otherwise none _ _)
+loop-i-init c = over-start otherwise none _ _
 
-pub returns-then-limit-offset : goal.returns-then-limit-offset
-unfolding said
-returns-then-limit-offset c =
-    let l = c.loop-i in
-    let h = rw c.u64_at-offset.ensures at c.if-limit-offset.true in
-    c.new.ensures ∙ sym (l.invariant.1 ∙ stop-left _ l.i _ _ c.loop-i-test.true (rw (le-ltb _ _ h)) (λ z. omega arith))
+pub returns-in_err-when : goal.returns-in_err-when
+unfolding said number_of
+returns-in_err-when c =
+    let a = c.args in
+    let here = rw (c.u64_at-offset.ensures, not-below) at c.when.ensures in
+    exits _ _ c.from_residual.ensures.1
+    (stops-left (said a.bytes.now a.at a.limit) _ _ c.loop-i-test.true here c.in_err-when.was ∙ sym c.loop-i.invariant)
 
 pub loop-i-preserved : goal.loop-i-preserved
-unfolding said
+unfolding said number_of
 loop-i-preserved c =
-    let l = c.loop-i in
-    let h = rw c.u64_at-offset.ensures at c.if-limit-offset.false in
-    (search rules, l.invariant.1 ∙ past-left _ l.i _ none c.loop-i-test.true (rw (lt-ltb _ _ h)) refl)
+    let a = c.args in
+    let here = rw (c.u64_at-offset.ensures, not-below) at c.when.ensures in
+    c.loop-i.invariant ∙ passes-left (said a.bytes.now a.at a.limit) _ _ c.loop-i-test.true here c.in_ok-when.was
 
 pub returns : goal.returns
 returns c =
-    let l = c.loop-i in
-    c.none.ensures ∙ sym (l.invariant.1 ∙ none_left _ l.i _ (omega arith))
+    let a = c.args in
+    done-left (said a.bytes.now a.at a.limit) _ _ c.loop-i-test.false ∙ sym c.loop-i.invariant

@@ -1,10 +1,6 @@
 -- `footer::check_offsets` meets its contract. The invariant: what the definition says of all the offsets is what it says of those from i on.
 -- Assumes nothing.
-use Prim.Native.Nat.{ℕ, ◌+◌, ◌-◌, ◌*◌, ◌≤◌}
-use mathlib.Core.Path.{◌≡◌}
-use mathlib.Core.Bool.{not}
-use mathlib.Core.List.{List}
-use lib.Dec.{ltb}
+use Rattle.std.proofs.Common.{◌≡◌, ℕ, ◌+◌, ◌-◌, ◌*◌, not, List, ltb}
 use Rattle.answers.specs.Refusals.{offset}
 use Rattle.answers.specs.Checks.{check, each}
 use Rattle.answers.specs.declared.Refusal.{Refusal}
@@ -17,8 +13,4 @@ unfoldable pub said : List ℕ → ℕ → ℕ → ℕ → Refusal
 said bytes at limit i = check (not (ltb (little bytes (at + 8 * i) 8) limit)) offset (at + 8 * i)
 
 abbrev pub invariant-loop-i : goal.invariant-loop-i
-invariant-loop-i l =
-    (l.i ≤ l.count) × (file_offsets_refusal l.bytes l.limit l.count l.at ≡ each (said l.bytes l.at l.limit) l.i (l.count - l.i))
-
-abbrev pub decreases-loop-i : goal.decreases-loop-i
-decreases-loop-i l = l.count - l.i
+invariant-loop-i l = file_offsets_refusal l.bytes l.limit l.count l.at ≡ each (said l.bytes l.at l.limit) l.i (l.count - l.i)

@@ -1,6 +1,5 @@
--- `leaves::all_sound` meets its contract. The invariant: the place is where dimension i starts, and in the dimensions before
--- it no range has a fault. The measure is the number of dimensions that are left.
--- Assumes nothing.
+-- `leaves::all_sound` meets its contract. The invariant: the place is where dimension i starts, and in the dimensions
+-- before it no range has a fault. Assumes nothing.
 use mathlib.Core.Path.{sym}
 use native.Mathlib.Omega.{arith}
 use borrow.Author.Count.{below_more}

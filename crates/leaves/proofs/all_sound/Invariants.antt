@@ -1,7 +1,6 @@
--- `leaves::all_sound` meets its contract. The invariant: the place is where dimension i starts, and in the dimensions before
--- it no range has a fault. The measure is the number of dimensions that are left.
--- Assumes nothing.
-use Prim.Native.Nat.{ℕ, ◌-◌, ◌≤◌, ◌<◌}
+-- `leaves::all_sound` meets its contract. The invariant: the place is where dimension i starts, and in the dimensions
+-- before it no range has a fault. Assumes nothing.
+use Prim.Native.Nat.{ℕ, ◌≤◌, ◌<◌}
 use mathlib.Core.Path.{◌≡◌}
 use Rattle.description.specs.Description.{kind_at, side_start}
 use Rattle.leaves.specs.Code.Sound.{SoundSide}
@@ -12,6 +11,3 @@ invariant-loop-i l =
     (l.i ≤ l.n)
     × (l.side ≡ side_start l.kinds l.i)
     × ((j : ℕ) → j < l.i → SoundSide (kind_at l.kinds j) l.leaves l.box_bytes (side_start l.kinds j) l.tiles)
-
-abbrev pub decreases-loop-i : goal.decreases-loop-i
-decreases-loop-i l = l.n - l.i

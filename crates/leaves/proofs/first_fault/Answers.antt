@@ -1,16 +1,12 @@
--- `leaves::first_fault` meets its contract. The invariant: the place is that of leaf k, and what the leaves from k on say is
--- what all of them say, since the ones before said nothing. The measure is the number of leaves that are left.
--- Assumes nothing.
-use Prim.Native.Nat.{ℕ, ◌+◌, ◌-◌, ◌*◌, ◌≤◌, ◌<◌}
-use mathlib.Core.Path.{◌≡◌, sym, ◌∙◌}
-use mathlib.Core.List.{List}
-use native.Mathlib.Omega.{arith}
+-- `leaves::first_fault` meets its contract. The invariant: the place is that of leaf k, and what the leaves from k on
+-- say is what all of them say, since the ones before said nothing. Assumes nothing.
+use Rattle.std.proofs.Common.{ℕ, ◌≡◌, ◌+◌, ◌-◌, ◌*◌, ◌≤◌, ◌<◌, List, length, sym, ◌∙◌, arith, rules}
 use native.Mathlib.Nat.{mul-le-mul_right}
-use lib.ListN.{length}
 use Rattle.answers.specs.Refusals.{none}
 use Rattle.answers.specs.Checks.{otherwise}
+use Rattle.answers.specs.Told.{told}
 use Rattle.answers.proofs.Runs.{over-start}
-use Rattle.answers.proofs.Checks.{past-left, stop-left, none_left}
+use Rattle.answers.proofs.Told.{moves, exits, passes-left, stops-left, done-left}
 use Rattle.description.specs.declared.Description.{Description}
 use Rattle.description.specs.Description.{sides_of, bytes_of_box}
 use Rattle.boxes.proofs.Moving.{ranges-told}
@@ -20,26 +16,28 @@ use Rattle.leaves.proofs.first_fault.Goals as goal
 
 pub loop-k-init : goal.loop-k-init
 unfolding leaves_refusal
-loop-k-init c = (omega arith, omega arith, over-start otherwise none _ _)
+loop-k-init c = (omega arith, over-start otherwise none _ _)
 
 -- leaf k is there
 there : (d : Description) (n : ℕ) (leaves : List ℕ) → length leaves ≡ n * bytes_of_box d
     → (k at b : ℕ) → k < n → at ≡ k * bytes_of_box d → b ≡ bytes_of_box d → at + b ≤ length leaves
 there d n leaves whole k at b h place own = omega (arith, whole, place, own, mul-le-mul_right (bytes_of_box d) h)
 
-pub returns-then-placed-ne0 : goal.returns-then-placed-ne0
+pub returns-in_err-map_err : goal.returns-in_err-map_err
 unfolding bytes_of_box
-returns-then-placed-ne0 c =
+returns-in_err-map_err c =
     let x = c.args in
     let d = x.description in
     let l = c.loop-k in
     let b = c.box_bytes-box_bytes.ensures in
-    let inside = there d x.tiles x.leaves.now c.requires l.k l.at c.box_bytes-box_bytes.result c.loop-k-test.true l.invariant.1 b in
+    let inside = there d x.tiles x.leaves.now c.requires l.k l.at c.box_bytes-box_bytes.result c.loop-k-test.true l.invariant.0 b in
     let size : l.at + c.box_bytes-box_bytes.result - l.at ≡ bytes_of_box d = omega (arith, b) in
-    let told : c.moved-placed.result ≡ leaf_at d x.leaves.now l.k =
-    rw (← l.invariant.1)
-    (ranges-told d.kinds (sides_of d.dimensions) _ l.at (rw size at c.check_ranges-told.ensures) c.moved-placed.ensures (omega (arith, inside, b))) in
-    sym (l.invariant.2 ∙ stop-left _ l.k _ _ c.loop-k-test.true told c.if-placed-ne0.true)
+    let says : told c.map_err.result ≡ leaf_at d x.leaves.now l.k =
+    rw (← l.invariant.0)
+    (ranges-told d.kinds (sides_of d.dimensions) _ l.at (rw size at c.check_ranges.ensures)
+    (moves _ _ l.at _ c.map_err.ensures.cases (λ e y p. search rules)) (omega (arith, inside, b))) in
+    exits _ _ c.from_residual.ensures.1
+    (stops-left (leaf_at d x.leaves.now) l.k _ c.loop-k-test.true says c.in_err-map_err.was ∙ sym l.invariant.1)
 
 pub loop-k-preserved : goal.loop-k-preserved
 unfolding bytes_of_box
@@ -48,17 +46,17 @@ loop-k-preserved c =
     let d = x.description in
     let l = c.loop-k in
     let b = c.box_bytes-box_bytes.ensures in
-    let inside = there d x.tiles x.leaves.now c.requires l.k l.at c.box_bytes-box_bytes.result c.loop-k-test.true l.invariant.1 b in
+    let inside = there d x.tiles x.leaves.now c.requires l.k l.at c.box_bytes-box_bytes.result c.loop-k-test.true l.invariant.0 b in
     let size : l.at + c.box_bytes-box_bytes.result - l.at ≡ bytes_of_box d = omega (arith, b) in
-    let told : c.moved-placed.result ≡ leaf_at d x.leaves.now l.k =
-    rw (← l.invariant.1)
-    (ranges-told d.kinds (sides_of d.dimensions) _ l.at (rw size at c.check_ranges-told.ensures) c.moved-placed.ensures (omega (arith, inside, b))) in (
-      omega (arith, c.loop-k-test),
-      omega (arith, l.invariant.1, b),
-      l.invariant.2 ∙ past-left _ l.k _ _ c.loop-k-test.true told c.if-placed-ne0.false,
+    let says : told c.map_err.result ≡ leaf_at d x.leaves.now l.k =
+    rw (← l.invariant.0)
+    (ranges-told d.kinds (sides_of d.dimensions) _ l.at (rw size at c.check_ranges.ensures)
+    (moves _ _ l.at _ c.map_err.ensures.cases (λ e y p. search rules)) (omega (arith, inside, b))) in (
+      omega (arith, l.invariant.0, b),
+      l.invariant.1 ∙ passes-left (leaf_at d x.leaves.now) l.k _ c.loop-k-test.true says c.in_ok-map_err.was,
     )
 
 pub returns : goal.returns
 returns c =
     let l = c.loop-k in
-    c.none.ensures ∙ sym (l.invariant.2 ∙ none_left _ _ _ (omega (arith, c.loop-k-test)))
+    done-left _ _ _ c.loop-k-test.false ∙ sym l.invariant.1

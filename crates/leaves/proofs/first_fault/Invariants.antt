@@ -1,7 +1,6 @@
--- `leaves::first_fault` meets its contract. The invariant: the place is that of leaf k, and what the leaves from k on say is
--- what all of them say, since the ones before said nothing. The measure is the number of leaves that are left.
--- Assumes nothing.
-use Prim.Native.Nat.{ℕ, ◌-◌, ◌*◌, ◌≤◌}
+-- `leaves::first_fault` meets its contract. The invariant: the place is that of leaf k, and what the leaves from k on
+-- say is what all of them say, since the ones before said nothing. Assumes nothing.
+use Prim.Native.Nat.{ℕ, ◌-◌, ◌*◌}
 use mathlib.Core.Path.{◌≡◌}
 use mathlib.Core.List.{List}
 use Rattle.answers.specs.Checks.{each}
@@ -17,9 +16,5 @@ leaf_at d leaves k = ranges_refusal d.kinds (sides_of d.dimensions) (box_in leav
 
 abbrev pub invariant-loop-k : goal.invariant-loop-k
 invariant-loop-k l =
-    (l.k ≤ l.tiles)
-    × (l.at ≡ l.k * bytes_of_box l.description)
+    (l.at ≡ l.k * bytes_of_box l.description)
     × (leaves_refusal l.description l.tiles l.leaves ≡ each (leaf_at l.description l.leaves) l.k (l.tiles - l.k))
-
-abbrev pub decreases-loop-k : goal.decreases-loop-k
-decreases-loop-k l = l.tiles - l.k

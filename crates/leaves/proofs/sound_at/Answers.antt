@@ -13,6 +13,7 @@ use Rattle.ranges.specs.Ranges.{Ends, ends_at}
 use Rattle.ranges.proofs.Reading.{part-ends, ends-at-fit}
 use Rattle.leaves.specs.Code.Sound.{SoundEnds}
 use Rattle.leaves.proofs.Ends.{low-fitted, high-fitted}
+use Rattle.leaves.proofs.Floats.{sound32, sound64}
 use Rattle.leaves.proofs.sound_at.Goals as goal
 
 -- ends that are no floats, in order
@@ -32,10 +33,14 @@ module _ (k : Kind) (bytes : List ℕ) (at w : ℕ) (size : w ≡ range_bytes k)
   read-high : {x : ℕ} → x ≡ (ends_at k (take (at + w - at) (drop at bytes)) 0).high → x ≡ (ends_at k bytes at).high
   read-high e = e ∙ ap (λ (r : Ends). r.high) (part-ends k bytes at (at + w - at) (omega arith) (omega arith))
 
--- each end of a float32 range is a number of four bytes
+-- each end of a range of floats is a number of so many bytes
 four : (k : Kind) (bytes : List ℕ) (at : ℕ) → ((j : ℕ) → get_or bytes j 0 < 256) → k ≡ Float32
     → ((ends_at k bytes at).low < 256 ^ 4) × ((ends_at k bytes at).high < 256 ^ 4)
 four k bytes at byte e = rw e (ends-at-fit bytes byte Float32 at)
+
+eight : (k : Kind) (bytes : List ℕ) (at : ℕ) → ((j : ℕ) → get_or bytes j 0 < 256) → k ≡ Float64
+    → ((ends_at k bytes at).low < 256 ^ 8) × ((ends_at k bytes at).high < 256 ^ 8)
+eight k bytes at byte e = rw e (ends-at-fit bytes byte Float64 at)
 
 pub overflow_cast-ends : goal.overflow_cast-ends
 overflow_cast-ends c =
@@ -52,16 +57,18 @@ overflow_cast-ends-in-Float32 c =
 pub returns-in-Float32 : goal.returns-in-Float32
 returns-in-Float32 c t =
     let x = c.args in
+    let fit = four x.kind x.bytes.now x.at (λ j. (c.type_inv.bytes j).fits) c.in-Float32.is in
     let low = read-low x.kind x.bytes.now x.at c.range_bytes.result c.range_bytes.ensures c.requires c.patterns_at-ends.ensures.low_value in
     let high = read-high x.kind x.bytes.now x.at c.range_bytes.result c.range_bytes.ensures c.requires c.patterns_at-ends.ensures.high_value in
-    rw (← low, ← high, c.in-Float32.is) (c.sound_f32.ensures t)
+    rw (← low, ← high, c.in-Float32.is) (sound32 _ _ (record { fits = rw low fit.0 }) (record { fits = rw high fit.1 }) (c.sound_floats.ensures t))
 
 pub returns-in-Float64 : goal.returns-in-Float64
 returns-in-Float64 c t =
     let x = c.args in
+    let fit = eight x.kind x.bytes.now x.at (λ j. (c.type_inv.bytes j).fits) c.in-Float64.is in
     let low = read-low x.kind x.bytes.now x.at c.range_bytes.result c.range_bytes.ensures c.requires c.patterns_at-ends.ensures.low_value in
     let high = read-high x.kind x.bytes.now x.at c.range_bytes.result c.range_bytes.ensures c.requires c.patterns_at-ends.ensures.high_value in
-    rw (← low, ← high, c.in-Float64.is) (c.sound_f64.ensures t)
+    rw (← low, ← high, c.in-Float64.is) (sound64 _ _ (record { fits = rw low fit.0 }) (record { fits = rw high fit.1 }) (c.sound_floats-in-Float64.ensures t))
 
 pub returns-in_default : goal.returns-in_default
 returns-in_default c t =

@@ -1,6 +1,5 @@
--- `leaves::sound_in` meets its contract. The invariant: the ranges of the leaves before leaf k have no fault. The measure is
--- the number of leaves that are left.
--- Assumes nothing.
+-- `leaves::sound_in` meets its contract. The invariant: the ranges of the leaves before leaf k have no fault. Assumes
+-- nothing.
 use Prim.Native.Nat.{◌+◌, ◌*◌}
 use native.Mathlib.Omega.{arith}
 use borrow.Author.Count.{below_more}

@@ -1,8 +1,10 @@
 -- The leaves as they are checked: their boxes, and ranges that have no fault. Nothing here is promised to a caller.
 -- Assumes nothing.
 use Rattle.std.specs.Prelude.{ℕ, ◌+◌, ◌*◌, ◌<◌, ◌≡◌, true, false, List, take, drop}
+use Rattle.std.specs.Float.Ieee.{Format, nan_bits}
 use Rattle.answers.specs.Checks.{each}
 use Rattle.answers.specs.declared.Refusal.{Refusal}
+use Rattle.order.specs.Key.{float_at_most, infinite}
 use Rattle.description.specs.declared.Kind.{Kind}
 use Rattle.description.specs.declared.Description.{Description}
 use Rattle.description.specs.Kinds.{is_infinite, ordered, at_most}
@@ -23,6 +25,16 @@ leaves_refusal d n leaves =
 abbrev pub SoundEnds : Kind → ℕ → ℕ → Type 0
 SoundEnds kind low high =
     (at_most (ordered kind) low high ≡ true) × (is_infinite kind low ≡ false) × (is_infinite kind high ≡ false)
+
+-- two patterns of floats that are finite and in order, as their values are read
+abbrev pub SoundFloats : Format → (ℕ → ℕ) → ℕ → ℕ → Type 0
+SoundFloats f read low high = record {
+  low_number : nan_bits f low ≡ false;
+  low_finite : infinite f low ≡ false;
+  high_number : nan_bits f high ≡ false;
+  high_finite : infinite f high ≡ false;
+  ordered : float_at_most f (read low) (read high) ≡ true;
+}
 
 -- no leaf's range at this place of it has a fault
 abbrev pub SoundSide : Kind → List ℕ → ℕ → ℕ → ℕ → Type 0

@@ -1,5 +1,4 @@
--- `opening::check_level` meets its contract. The loop's invariant: what the rows from k on say is what all of them say,
--- since the ones before said nothing. The measure is the number of rows that are left.
+-- `opening::check_level` meets its contract, row by row.
 -- Assumes nothing.
 use mathlib.Core.Path.{◌≡◌, refl, sym, ◌∙◌}
 use Prim.Native.Nat.{ℕ}
@@ -8,7 +7,9 @@ use Rattle.answers.specs.Refusals.{none}
 use Rattle.answers.specs.Checks.{otherwise}
 use Rattle.answers.specs.declared.Refusal.{Refusal}
 use Rattle.answers.proofs.Runs.{over-start}
-use Rattle.answers.proofs.Checks.{none_left, past-left, stop-left}
+use Rattle.answers.proofs.Checks.{none_left}
+use Rattle.answers.specs.Told.{told, number_of}
+use Rattle.rtree.proofs.Left.{left, past-told, stop-told}
 use Rattle.tree.proofs.Table.{as_read}
 use Rattle.opening.specs.Code.Stored.{rows_refusal, table_refusal, Rows}
 use Rattle.opening.proofs.Rows.{first_fits, children-there, children-said}
@@ -17,7 +18,7 @@ use Rattle.opening.proofs.check_level.Goals.{After-count_in-count}
 
 pub loop-k-init : goal.loop-k-init
 unfolding rows_refusal
-loop-k-init c = (omega arith, sym (over-start otherwise none _ _))
+loop-k-init c = sym (over-start otherwise none _ _)
 
 -- the two levels, by the numbers that the table has
 module _ (c : After-count_in-count) where
@@ -46,26 +47,28 @@ overflow_mul-first c =
     let fits = first_fits p c.loop-k.k c.loop-k-test.true in
     omega arith
 
-pub check_row-told-requires-clause-run : goal.check_row-told-requires-clause-run
-check_row-told-requires-clause-run c =
-    let p = rows-here (goal.at.check_row-told-requires-clause-run c).After-count_in-count in
+pub check_row-requires : goal.check_row-requires
+check_row-requires c =
+    let p = rows-here (goal.at.check_row-requires c).After-count_in-count in
     children-there p c.loop-k.k c.loop-k-test.true c.row_length-len.ensures
 
-pub returns-then-told-ne0 : goal.returns-then-told-ne0
-returns-then-told-ne0 c =
-    let t = (goal.at.returns-then-told-ne0 c).After-count_in-count in
+pub returns-in_err-check_row : goal.returns-in_err-check_row
+unfolding number_of
+returns-in_err-check_row c =
+    let t = (goal.at.returns-in_err-check_row c).After-count_in-count in
     let l = c.loop-k in
-    let said = children-said (rows-here t) l.k c.loop-k-test.true c.row_length-len.ensures c.check_row-told.ensures in
-    sym (stop-left _ l.k _ _ c.loop-k-test.true said c.if-told-ne0.true) ∙ l.invariant.1 ∙ all-rows t
+    let said = children-said (rows-here t) l.k c.loop-k-test.true c.row_length-len.ensures c.check_row.ensures in
+    left _ _ c.from_residual.ensures.1 ∙ stop-told _ _ _ _ c.loop-k-test.true said c.in_err-check_row.was ∙ l.invariant ∙ all-rows t
 
 pub loop-k-preserved : goal.loop-k-preserved
+unfolding number_of
 loop-k-preserved c =
     let t = (goal.at.loop-k-preserved c).After-count_in-count in
     let l = c.loop-k in
-    let said = children-said (rows-here t) l.k c.loop-k-test.true c.row_length-len.ensures c.check_row-told.ensures in
-    (omega arith, sym (past-left _ l.k _ _ c.loop-k-test.true said c.if-told-ne0.false) ∙ l.invariant.1)
+    let said = children-said (rows-here t) l.k c.loop-k-test.true c.row_length-len.ensures c.check_row.ensures in
+    sym (past-told _ _ _ _ c.loop-k-test.true said c.in_ok-check_row.was) ∙ l.invariant
 
 pub returns : goal.returns
+unfolding told
 returns c =
-    c.none.ensures ∙ sym (none_left _ _ _ (omega arith)) ∙ c.loop-k.invariant.1
-    ∙ all-rows (goal.at.returns c).After-count_in-count
+    sym (none_left _ _ _ (omega arith)) ∙ c.loop-k.invariant ∙ all-rows (goal.at.returns c).After-count_in-count

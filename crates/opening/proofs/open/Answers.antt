@@ -10,5 +10,5 @@ returns c =
     let a = c.args in
     let d = a.description in
     c.open_by.ensures
-    ∙ rw c.check_retired.ensures
+    ∙ rw (c.from.ensures, c.check_retired.ensures)
     (same-opening d a.file_size a.footer.now a.body.now (retired-agrees d (tiles_of d a.footer.now)))

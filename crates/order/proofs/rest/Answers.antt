@@ -5,6 +5,7 @@ use mathlib.Core.Path.{sym}
 use native.Mathlib.Nat.{le_refl}
 use native.Mathlib.Omega.{arith}
 use lib.ListN.{length}
+use Rattle.std.proofs.Common.{rules}
 use Rattle.order.proofs.Little.{little-past}
 use Rattle.order.proofs.rest.Invariants.{one_more, seven}
 use Rattle.order.proofs.rest.Goals as goal
@@ -21,20 +22,20 @@ loop-i-init c =
 pub overflow_mul-number : goal.overflow_mul-number
 overflow_mul-number c =
     let a = c.args in
-    let r = seven a.s.now a.at c.loop-i.i c.shared_slice_known-in-loop-i-1.given c.loop-i-test.true in
+    let r = seven a.s.now a.at c.loop-i.i (search rules) c.loop-i-test.true in
     omega arith
 
 pub overflow_add-number : goal.overflow_add-number
 overflow_add-number c =
     let a = c.args in
-    let r = seven a.s.now a.at c.loop-i.i c.shared_slice_known-in-loop-i-1.given c.loop-i-test.true in
+    let r = seven a.s.now a.at c.loop-i.i (search rules) c.loop-i-test.true in
     omega arith
 
 pub loop-i-preserved : goal.loop-i-preserved
 loop-i-preserved c =
     let a = c.args in
     let l = c.loop-i in
-    let e = c.wide64-low.ensures.0 in (
+    let e = c.wide64.ensures.0 in (
       omega arith,
       omega arith,
       rw (e, l.invariant.2) (one_more a.s.now a.at l.i c.loop-i-test.true (omega arith)),

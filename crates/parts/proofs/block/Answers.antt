@@ -1,23 +1,20 @@
 -- `parts::block` meets its contract: what is refused for good stays; bytes within the stated length are taken; and where
 -- there are more, nothing but 2 at the stated length is left to say. Assumes nothing.
-use mathlib.Core.Path.{◌≡◌, refl, sym, ◌∙◌}
-use mathlib.Core.Bool.{false, ◌&&◌}
+use mathlib.Core.Path.{◌≡◌, refl, sym}
+use mathlib.Core.Logic.{◌⊎◌, inl, inr}
 use mathlib.Core.List.{List, ◌++◌}
-use Prim.Native.Nat.{ℕ, suc, ◌+◌, ◌≤◌, ◌<◌}
-use native.Mathlib.Decide.{dec_le}
+use Prim.Native.Nat.{ℕ, ◌+◌, ◌≤◌, ◌<◌}
 use native.Mathlib.Omega.{arith}
 use lib.ListN.{length, take, length-take, length-append}
-use lib.Dec.{ltb, eqb}
-use borrow.Author.Tests.{lt-ltb, ltb-true, eqb-true, eqb-false}
 use Rattle.description.specs.declared.Description.{Description}
-use Rattle.description.proofs.Tests.{both}
+use Rattle.answers.specs.Told.{number_of}
 use Rattle.parts_state.specs.Took.{Took, Begins}
 use Rattle.parts_state.specs.Code.State.{Holds}
 use Rattle.parts.specs.Code.Cursor.{with_cursor}
 use Rattle.parts.proofs.Lists.{read_first}
 use Rattle.parts.proofs.Prefix.{begins-got, begins-next, begins-length}
 use Rattle.parts.proofs.Ends.{late-tree, ends-past}
-use Rattle.parts.proofs.block.Goals.{After-lesser-all, After-take-r, Start}
+use Rattle.parts.proofs.block.Goals.{After-min-all, After-take-r, Start}
 use Rattle.parts.proofs.block.Goals as goal
 
 pub returns-then-c-ne0 : goal.returns-then-c-ne0
@@ -34,11 +31,11 @@ held-length : (c : Start) → length c.args.parts.held ≡ 64
 held-length c = omega arith
 
 -- as many as are lent
-lent : (c : After-lesser-all) → length (take c.lesser-all.result c.args.bytes.now) ≡ c.lesser-all.result
-lent c = rw length-take (omega (arith, c.lesser-all.ensures))
+lent : (c : After-min-all) → length (take c.min-all.result c.args.bytes.now) ≡ c.min-all.result
+lent c = rw length-take (omega (arith, c.min-all.ensures))
 
 -- what holds once they are taken
-after : (c : After-take-r) → (let x = c.args in let all = c.lesser-all.result in
+after : (c : After-take-r) → (let x = c.args in let all = c.min-all.result in
     (d : Description) (F : ℕ) (footer : List ℕ) (stated : ℕ) (got : List ℕ) → Took d F footer stated got x.parts x.work.now
     → (body : List ℕ) → Begins (got ++ x.bytes.now) body
     → (length got + all ≤ stated) × (all < length x.bytes.now → length got + all ≡ stated) × (8 ≤ stated)
@@ -48,29 +45,27 @@ after c d F footer stated got took body begins =
     let x = c.args in
     let h = took body (begins-got got x.bytes.now body begins) in
     let g = h.going c.if-c-ne0.false in
-    let fits : length got + c.lesser-all.result ≤ stated = omega (arith, c.lesser-all.ensures, c.room_left-room.ensures, g.here, g.said, g.within) in
-    let first = read_first body (length got) x.bytes.now (begins-next got x.bytes.now body begins) c.lesser-all.result (omega (arith, c.lesser-all.ensures)) in (
+    let fits : length got + c.min-all.result ≤ stated = omega (arith, c.min-all.ensures, c.room_left-room.ensures, g.here, g.said, g.within) in
+    let first = read_first body (length got) x.bytes.now (begins-next got x.bytes.now body begins) c.min-all.result (omega (arith, c.min-all.ensures)) in (
       fits,
-      (λ more. omega (arith, c.lesser-all.ensures, c.room_left-room.ensures, g.here, g.said, g.within)),
+      (λ more. omega (arith, c.min-all.ensures, c.room_left-room.ensures, g.here, g.said, g.within)),
       g.enough,
-      rw (lent (goal.at.After-take-r c).After-lesser-all) at (c.take-r.ensures.1 d F footer stated body (length got) h first (omega (arith, lent (goal.at.After-take-r c).After-lesser-all, fits))),
+      rw (lent (goal.at.After-take-r c).After-min-all) at (c.take-r.ensures.1 d F footer stated body (length got) h first (omega (arith, lent (goal.at.After-take-r c).After-min-all, fits))),
     )
 
-pub returns-then-both : goal.returns-then-both
-unfolding Took
-returns-then-both c =
+pub returns-then-all-bytes : goal.returns-then-all-bytes
+unfolding Took number_of
+returns-then-all-bytes c =
     let x = c.args in
-    let e = both _ _ (sym c.both.ensures ∙ c.if-both.true) in
-    let more : c.lesser-all.result < length x.bytes.now = ltb-true _ _ e.0 in
     record {
       room = c.take-r.ensures.0.to-work;
       took = λ d F footer stated got took body begins.
-          let a = after (goal.at.returns-then-both c).After-take-r d F footer stated got took body begins in
-          let all = a.1 more in
-          let g = a.3.going (eqb-true _ 0 e.1) in
-          let past : stated < length body = omega (arith, begins-length got x.bytes.now body begins, all, more) in
+          let a = after (goal.at.returns-then-all-bytes c).After-take-r d F footer stated got took body begins in
+          let all = a.1 c.if-all-bytes.true in
+          let g = a.3.going c.if-r-eq0.true in
+          let past : stated < length body = omega (arith, begins-length got x.bytes.now body begins, all, c.if-all-bytes.true) in
           let tree = late-tree g (omega (arith, all, a.2)) in
-          rw (c.with_cursor.ensures, c.refuse-over.ensures) (record {
+          rw (c.with_cursor.ensures, c.refuse-over.ensures, c.at.ensures) (record {
             decided = λ o. (ends-past g tree (omega (arith, all, past)) all (λ z. omega (arith, past))).decided (λ z. omega arith);
             going = λ z. absurd (omega arith);
           });
@@ -78,30 +73,26 @@ returns-then-both c =
 
 pub returns : goal.returns
 unfolding Took
-returns c =
-    let bytes = c.args.bytes.now in
-    let e = sym c.both.ensures ∙ c.if-both.false in
-    record {
-      room = c.take-r.ensures.0.to-work;
-      took = λ d F footer stated got took body begins.
-          rw c.with_cursor-2.ensures (go (goal.at.returns c).After-take-r e d F footer stated got took body begins (dec_le (suc c.lesser-all.result) (length bytes)));
-    }
+returns c = record {
+  room = c.take-r.ensures.0.to-work;
+  took = λ d F footer stated got took body begins.
+      rw c.with_cursor-2.ensures (go (goal.at.returns c).After-take-r d F footer stated got took body begins c.else-r-eq0.either);
+}
   where
-    go : (c : After-take-r) → (let x = c.args in let all = c.lesser-all.result in
-        (ltb all (length x.bytes.now) && eqb c.take-r.result.number 0) ≡ false
-        → (d : Description) (F : ℕ) (footer : List ℕ) (stated : ℕ) (got : List ℕ) → Took d F footer stated got x.parts x.work.now
-        → (body : List ℕ) → Begins (got ++ x.bytes.now) body → Dec (suc all ≤ length x.bytes.now)
+    go : (c : After-take-r) → (let x = c.args in let all = c.min-all.result in
+        (d : Description) (F : ℕ) (footer : List ℕ) (stated : ℕ) (got : List ℕ) → Took d F footer stated got x.parts x.work.now
+        → (body : List ℕ) → Begins (got ++ x.bytes.now) body → ((c.take-r.result.number ≡ 0) × (length x.bytes.now ≤ all)) ⊎ (c.take-r.result.number ≡ 0 → ⊥)
         → Holds d F footer stated body c.take-r.new.work (with_cursor x.parts c.take-r.new.held c.take-r.result) (length (got ++ x.bytes.now)))
-    go c e d F footer stated got took body begins (yes more) =
+    go c d F footer stated got took body begins (inl none) =
         let a = after c d F footer stated got took body begins in
-        record { decided = a.3.decided; going = λ z. absurd (eqb-false _ 0 (rw (lt-ltb _ _ more) at e) z) }
-    go c e d F footer stated got took body begins (no none) =
-        let a = after c d F footer stated got took body begins in
-        let all : c.lesser-all.result ≡ length c.args.bytes.now = omega (arith, c.lesser-all.ensures) in
+        let all : c.min-all.result ≡ length c.args.bytes.now = omega (arith, c.min-all.ensures, none.1) in
         rw length-append (rw all at a.3)
+    go c d F footer stated got took body begins (inr some) =
+        let a = after c d F footer stated got took body begins in
+        record { decided = a.3.decided; going = λ z. absurd (some z) }
 
 pub slice_bounds-take-end-2 : goal.slice_bounds-take-end-2
-slice_bounds-take-end-2 c = sym (lent (goal.at.slice_bounds-take-end-2 c).After-lesser-all)
+slice_bounds-take-end-2 c = sym (lent (goal.at.slice_bounds-take-end-2 c).After-min-all)
 
 pub take-r-requires : goal.take-r-requires
 take-r-requires c = record {

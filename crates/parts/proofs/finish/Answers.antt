@@ -4,6 +4,7 @@ use Prim.Native.Nat.{◌-◌}
 use native.Mathlib.Omega.{arith}
 use lib.ListN.{length}
 use lib.Seq.{take-length}
+use Rattle.answers.specs.Told.{number_of}
 use Rattle.parts_state.specs.Took.{Took}
 use Rattle.parts.proofs.Ends.{ends-other, ends-fault, ends-accepted}
 use Rattle.parts.proofs.finish.Goals as goal
@@ -20,13 +21,13 @@ returns-then-c-eq0 c = λ d F footer stated got took.
     ((took got (take-length got)).going c.if-c-ne0.false)
 
 pub returns-then-room-gt0 : goal.returns-then-room-gt0
-unfolding Took
+unfolding Took number_of
 returns-then-room-gt0 c = λ d F footer stated got took.
     let g = (took got (take-length got)).going c.if-c-ne0.false in
     let place : c.args.parts.stated - c.room_left-room.result ≡ length got =
     omega (arith, c.room_left-room.ensures, g.here, g.said, g.within) in
     c.refused_in-then-room-gt0.ensures
-    ∙ rw place
+    ∙ rw (place, c.number.ensures)
     (sym (ends-other g (omega (arith, c.if-c-eq0.false)) (omega (arith, g.within))
     (λ e. omega (arith, c.if-room-gt0.true, c.room_left-room.ensures, g.here, g.said))))
 

@@ -4,6 +4,7 @@ use mathlib.Core.Path.{◌≡◌, sym, ap, ◌∙◌}
 use mathlib.Core.List.{List}
 use Prim.Native.Nat.{ℕ}
 use native.Mathlib.Omega.{arith}
+use Rattle.answers.specs.Told.{number_of}
 use Rattle.description.specs.declared.Description.{Description}
 use Rattle.tree.specs.declared.Shape.{Shape}
 use Rattle.tree.specs.Shape.{boxes, count_in}
@@ -30,10 +31,11 @@ count-is c d F footer stated body work held p g =
     count-shaped g c.requires.fanout_nonzero _ (c.count_in-count.ensures ∙ e ∙ rw c.requires.box_bytes_value)
 
 pub returns-then-u64_at-count : goal.returns-then-u64_at-count
+unfolding number_of
 returns-then-u64_at-count c =
     let eight = c.requires.bytes_len in
     λ held work size d F footer stated body p zero g kept r fits.
-    rw (c.refuse.ensures, eight)
+    rw (c.refuse.ensures, c.at.ensures, eight)
     (count-refused g c.requires.fanout_nonzero zero c.requires.counted_value kept r eight (omega (arith, fits, eight)) c.u64_at.ensures
     (λ e. c.if-u64_at-count.true (e ∙ sym (count-is (goal.at.returns-then-u64_at-count c).After-count_in-count d F footer stated body work held p g))))
 

@@ -1,7 +1,7 @@
 -- The steps of a block and of a finish: with which numbers they are safe, and what of the bytes each of them takes.
 -- Nothing here is promised to a caller.
 -- Assumes nothing.
-use Rattle.std.specs.Prelude.{ℕ, ◌+◌, ◌-◌, ◌*◌, ◌≤◌, ◌<◌, min, ◌≡◌, List, length, take, drop}
+use Rattle.std.specs.Prelude.{ℕ, ◌+◌, ◌-◌, ◌*◌, ◌≤◌, ◌<◌, min, ◌≡◌, Option, None, Some, List, length, take, drop}
 use Rattle.std.proofs.lemmas.List.Edits.{sets}
 use Rattle.answers.specs.Refusals as refusals
 use Rattle.description.specs.declared.Description.{Description}
@@ -37,6 +37,11 @@ pub record RunOf (s : Parts) (b : ℕ) (c : Cursor) (bytes : List ℕ) (m : ℕ)
   pub few : m ≤ c.count - c.index
   pub counted : 0 < c.counted
 
+-- so many bytes: none where nothing is told
+abbrev pub held_of : Option ℕ → ℕ
+held_of None = 0
+held_of (Some have) = have
+
 -- Of what comes next, of which `kept` bytes are held, so many are held then: none, where it stands whole in the block.
 pub record Gathered (held : List ℕ) (kept : ℕ) (bytes : List ℕ) (item have : ℕ) (after : List ℕ) : Type 0 where
   pub room : length after ≡ length held
@@ -60,7 +65,7 @@ Takes s work bytes r after =
     → Holds d F footer stated body after r (p + length bytes)
 
 -- Some of them taken.
-pub record Some (d : Description) (F : ℕ) (footer : List ℕ) (stated : ℕ) (body after : List ℕ) (r : Parts)
+pub record Part (d : Description) (F : ℕ) (footer : List ℕ) (stated : ℕ) (body after : List ℕ) (r : Parts)
     (p most : ℕ) : Type 0 where
   pub taken : ℕ
   pub some : 0 < taken
@@ -71,7 +76,7 @@ abbrev pub TakesSome : Parts → List ℕ → List ℕ → Parts → List ℕ �
 TakesSome s work bytes r after =
     (d : Description) (F : ℕ) (footer : List ℕ) (stated : ℕ) (body : List ℕ) (p : ℕ)
     → Holds d F footer stated body work s p → Reads body p bytes → p + length bytes ≤ stated
-    → Some d F footer stated body after r p (length bytes)
+    → Part d F footer stated body after r p (length bytes)
 
 -- A number, or some boxes, of which no byte is held.
 abbrev pub TakesItem : Parts → List ℕ → List ℕ → Parts → List ℕ → Type 0
@@ -80,6 +85,20 @@ TakesItem s work bytes r after =
     → s.cursor.number ≡ 0 → Going d F footer stated body work s p → s.cursor.kept ≡ 0 → Reads body p bytes
     → p + length bytes ≤ stated
     → Holds d F footer stated body after r (p + length bytes)
+
+-- What comes next taken whole, of `item` bytes, and of boxes maybe more.
+pub record Whole (d : Description) (F : ℕ) (footer : List ℕ) (stated : ℕ) (body after : List ℕ) (r : Parts)
+    (p item most : ℕ) : Type 0 where
+  pub taken : ℕ
+  pub least : item ≤ taken
+  pub few : taken ≤ most
+  pub holds : Holds d F footer stated body after r (p + taken)
+
+abbrev pub TakesWhole : Parts → Cursor → List ℕ → List ℕ → ℕ → Cursor → List ℕ → Type 0
+TakesWhole s c work bytes item r after =
+    (held : List ℕ) (d : Description) (F : ℕ) (footer : List ℕ) (stated : ℕ) (body : List ℕ) (p : ℕ)
+    → Going d F footer stated body work (with_cursor s held c) p → Reads body p bytes → p + length bytes ≤ stated
+    → Whole d F footer stated body after (with_cursor s held r) p item (length bytes)
 
 -- A number, which goes to no buffer.
 abbrev pub TakesNumber : Parts → ℕ → Cursor → List ℕ → Cursor → Type 0

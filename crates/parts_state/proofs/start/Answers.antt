@@ -5,6 +5,7 @@ use native.Mathlib.Omega.{arith}
 use lib.ListN.{length, length-take}
 use Rattle.footer.proofs.Passed.{ready}
 use Rattle.rtree.proofs.Passed.{box-bytes-most}
+use Rattle.answers.specs.Told.{number_of}
 use Rattle.parts_state.specs.Took.{Took}
 use Rattle.parts_state.proofs.Starts.{starts-footer, starts-short, starts-blank}
 use Rattle.parts_state.proofs.start.Goals as goal
@@ -14,18 +15,17 @@ pub returns-then-checked-ne0 : goal.returns-then-checked-ne0
 unfolding Took
 returns-then-checked-ne0 c = λ work body begins.
     let x = c.args in
-    rw c.begun.ensures
-    (starts-footer x.description x.file_size x.footer.now x.stated c.check-checked.ensures body work _ c.if-checked-ne0.true)
+    starts-footer x.description x.file_size x.footer.now x.stated c.check-checked.ensures body work _ c.if-checked-ne0.true
 
 pub returns-then-stated-lt8 : goal.returns-then-stated-lt8
-unfolding Took
+unfolding Took number_of
 returns-then-stated-lt8 c = λ work body begins.
     let x = c.args in
-    rw c.begun-then-stated-lt8.ensures
+    rw c.number.ensures
     (starts-short x.description x.file_size x.footer.now x.stated c.check-checked.ensures body work c.if-checked-ne0.false _ c.if-stated-lt8.true)
 
-pub padded-domain-requires : goal.padded-domain-requires
-padded-domain-requires c =
+pub padded-requires : goal.padded-requires
+padded-requires c =
     let x = c.args in
     rw length-take (omega (arith, c.box_bytes.ensures, box-bytes-most x.description))
 
@@ -33,9 +33,8 @@ pub returns : goal.returns
 unfolding Took
 returns c = λ work body begins.
     let x = c.args in
-    rw c.begun-2.ensures
-    (starts-blank x.description x.file_size x.footer.now x.stated c.check-checked.ensures body work c.if-checked-ne0.false
-    c.box_bytes.ensures c.padded-domain.ensures c.if-stated-lt8.false)
+    starts-blank x.description x.file_size x.footer.now x.stated c.check-checked.ensures body work c.if-checked-ne0.false
+    c.box_bytes.ensures c.padded.ensures c.if-stated-lt8.false
 
 -- the domain's box is there
 there : (c : After-box_bytes) → c.check-checked.result.number ≡ 0

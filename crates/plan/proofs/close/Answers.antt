@@ -1,10 +1,8 @@
 -- `plan::close` meets its contract: the open range is written, or there is none. Assumes nothing.
-use Rattle.std.proofs.Common.{◌∙◌}
 use Rattle.plan.proofs.Steps.{close-some}
 use Rattle.plan.proofs.close.Goals as goal
 
-pub returns-then-p : goal.returns-then-p
-returns-then-p c =
+pub returns-in-Some : goal.returns-in-Some
+returns-in-Some c =
     let a = c.args in
-    close-some a.p a.out.now c.if-p.true c.put.new.out c.put.ensures c.wrapping_add_u64.result
-    (c.wrapping_add_u64.ensures.value ∙ rw c.less-length.ensures)
+    close-some a.p c.in-Some.range a.out.now c.in-Some.is c.put.new.out c.put.ensures _ (rw c.length.ensures)

@@ -2,7 +2,7 @@
 -- tile, and the end, make of it? The ranges that are left, over what stands in the buffer now, are all ranges over what
 -- stood there first.
 -- Assumes nothing.
-use Rattle.std.specs.Prelude.{◌≡◌, ℕ, ◌+◌, ◌-◌, ◌*◌, ◌/◌, ◌%◌, ◌^◌, ◌≤◌, Bool, cond, List, [], ◌∷◌, length, take, nat_lt}
+use Rattle.std.specs.Prelude.{◌≡◌, ℕ, ◌+◌, ◌-◌, ◌*◌, ◌/◌, ◌%◌, ◌^◌, ◌≤◌, Bool, cond, Option, Some, None, List, [], ◌∷◌, length, take, leb, nat_lt}
 use Rattle.std.proofs.lemmas.List.Edits.{sets}
 use Rattle.plan.specs.declared.Range.{Range}
 use Rattle.plan.specs.declared.Progress.{Progress}
@@ -16,30 +16,43 @@ pub record Left (first : List ℕ) (all : List Range) (out : List ℕ) (ranges b
   pub stored : sets out (2 * ranges) (words (take (length first / 2 - ranges) rs))
       ≡ sets first 0 (words (take (length first / 2) all))
 
--- the open range, if one is begun, before other ranges: where it is closed, and where a tile may still belong to it
-abbrev pub closed : Progress → List Range → List Range
-closed p rs = cond p.begun (range p.start p.end ∷ rs) rs
+-- how many ranges are open, and the open range, if one is, before other ranges: where it is closed, and where a tile may
+-- still belong to it
+abbrev pub opened : Option Range → ℕ
+opened None = 0
+opened (Some r) = 1
 
-abbrev pub ahead : ℕ → Progress → List Range → List Range
-ahead g p rs = cond p.begun (before g (range p.start p.end) rs) rs
+abbrev pub closed : Option Range → List Range → List Range
+closed None rs = rs
+closed (Some r) rs = r ∷ rs
+
+abbrev pub ahead : ℕ → Option Range → List Range → List Range
+ahead g None rs = rs
+ahead g (Some r) rs = before g r rs
+
+-- the open range with tile t, where that belongs to it
+abbrev pub joined : ℕ → Option Range → Range → Option Range
+joined g None t = None
+joined g (Some r) t = cond (leb (t.start - r.end) g) (Some (range r.start t.end)) None
 
 -- the open range is written
 pub record Closed (p : Progress) (out : List ℕ) (w : Written) (out' : List ℕ) : Type 0 where
-  pub more : w.ranges ≡ p.ranges + cond p.begun 1 0
-  pub left : (first : List ℕ) (all rs : List Range) → Left first all out p.ranges p.bytes (closed p rs)
+  pub more : w.ranges ≡ p.written.ranges + opened p.begun
+  pub left : (first : List ℕ) (all rs : List Range)
+      → Left first all out p.written.ranges p.written.bytes (closed p.begun rs)
       → Left first all out' w.ranges w.bytes rs
 
 -- tile t is met
 pub record Visited (g : ℕ) (t : Range) (p : Progress) (out : List ℕ) (q : Progress) (out' : List ℕ) : Type 0 where
   pub tiles : q.tiles ≡ p.tiles + 1
-  pub few : q.ranges + cond q.begun 1 0 ≤ q.tiles
+  pub few : q.written.ranges + opened q.begun ≤ q.tiles
   pub left : (first : List ℕ) (all rs : List Range)
-      → Left first all out p.ranges p.bytes (ahead g p (cond (nat_lt t.start t.end) (before g t rs) rs))
-      → Left first all out' q.ranges q.bytes (ahead g q rs)
+      → Left first all out p.written.ranges p.written.bytes (ahead g p.begun (cond (nat_lt t.start t.end) (before g t rs) rs))
+      → Left first all out' q.written.ranges q.written.bytes (ahead g q.begun rs)
 
 -- all tiles are met
 pub record Scanned (g : ℕ) (named : ℕ → Bool) (tile : ℕ → Range) (n : ℕ) (out : List ℕ) (p : Progress) (out' : List ℕ)
     : Type 0 where
   pub tiles : p.tiles ≡ different n named
-  pub few : p.ranges + cond p.begun 1 0 ≤ n
-  pub left : Left out (planned g named tile n) out' p.ranges p.bytes (closed p [])
+  pub few : p.written.ranges + opened p.begun ≤ n
+  pub left : Left out (planned g named tile n) out' p.written.ranges p.written.bytes (closed p.begun [])

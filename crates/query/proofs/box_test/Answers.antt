@@ -1,38 +1,25 @@
 -- `query::box_test` meets its contract. Where a check refuses, its refusal is answered; where none does, the box's bytes are there and the window has no NaN,
 -- which is what the test asks. Both clauses follow by `refusing` and `answering` of `OneBox.antt`.
 -- Assumes nothing.
-use mathlib.Core.Path.{◌≡◌, sym, ap, ◌∙◌}
-use Rattle.answers.specs.declared.Refusal.{Refusal}
-use Rattle.query.specs.BoxTest.{box_test_refusal}
-use Rattle.query.proofs.Window.{Fit}
-use Rattle.query.proofs.OneBox.{passed-all, refusing, asked, answering}
+use Rattle.answers.specs.Told.{told}
+use Rattle.answers.proofs.Told.{told-err, ok-clear, refuses}
+use Rattle.query.proofs.OneBox.{refusing, asked, answering}
 use Rattle.query.proofs.box_test.Goals as goal
 
-pub returns-then-told-ne0 : goal.returns-then-told-ne0
-returns-then-told-ne0 c =
+pub returns-in-Err : goal.returns-in-Err
+unfolding told
+returns-in-Err c =
     let x = c.args in
-    let p = refusing x.description x.bytes.now x.window c.check_box_test-told.ensures c.if-told-ne0.true in
-    record { answer = p.0; read = p.1 }
+    let p = refusing x.description x.bytes.now x.window (told-err c.check_box_test.ensures c.in-Err.is) (refuses c.in-Err.e) in
+    rw c.number.ensures (record { answer = p.0; read = p.1 })
 
-pub test_box-tested-requires : goal.test_box-tested-requires
-test_box-tested-requires c =
-    let clear : ((let x = c.args in (box_test_refusal x.description x.bytes.now x.window).number ≡ 0))
-    = ap (λ (r : Refusal). r.number) (sym c.check_box_test-told.ensures) ∙ c.if-told-ne0.false in
-    let fit : ((
+pub test_box-requires : goal.test_box-requires
+test_box-requires c =
     let x = c.args in
-    Fit x.description x.window (passed-all x.description x.bytes.now x.window clear).windowed))
-    = rw c.window_ends-ends.ensures.0 at c.window_ends-ends.ensures.1 in
-    let x = c.args in
-    asked x.description x.bytes.now x.window clear fit c.sides_of-dimensions.ensures c.window_ends-ends.ensures.0
+    asked x.description x.bytes.now x.window (ok-clear c.check_box_test.ensures c.in-Ok.is) c.of-asked.ensures.is c.of-asked.ensures.fitting
 
-pub returns : goal.returns
-returns c =
-    let clear : ((let x = c.args in (box_test_refusal x.description x.bytes.now x.window).number ≡ 0))
-    = ap (λ (r : Refusal). r.number) (sym c.check_box_test-told.ensures) ∙ c.if-told-ne0.false in
-    let fit : ((
+pub returns-in-Ok : goal.returns-in-Ok
+returns-in-Ok c =
     let x = c.args in
-    Fit x.description x.window (passed-all x.description x.bytes.now x.window clear).windowed))
-    = rw c.window_ends-ends.ensures.0 at c.window_ends-ends.ensures.1 in
-    let x = c.args in
-    let p = answering x.description x.bytes.now x.window clear fit c.sides_of-dimensions.ensures c.window_ends-ends.ensures.0 c.test_box-tested.ensures in
+    let p = answering x.description x.bytes.now x.window (ok-clear c.check_box_test.ensures c.in-Ok.is) c.of-asked.ensures.is c.of-asked.ensures.fitting c.test_box.ensures in
     record { answer = p.0; read = p.1 }

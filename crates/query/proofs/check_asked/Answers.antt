@@ -1,30 +1,23 @@
 -- `query::check_asked` meets its contract: the three checks in turn. Assumes nothing.
-use mathlib.Core.Path.{◌≡◌, sym, ap, ◌∙◌}
-use mathlib.Core.List.{[], ◌∷◌}
-use Rattle.answers.specs.Refusals.{none}
-use Rattle.answers.specs.Checks.{otherwise, first}
-use Rattle.answers.specs.declared.Refusal.{Refusal}
-use Rattle.answers.proofs.Checks.{regroup, last, first-none, join-next}
-use Rattle.description.specs.declared.Description.{Description}
-use Rattle.boxes.specs.declared.Window.{Window}
-use Rattle.boxes.specs.Windows.{window_refusal}
+use Rattle.std.proofs.Common.{sym, ◌∙◌}
+use Rattle.answers.specs.Told.{number_of}
+use Rattle.answers.proofs.Told.{stops, passes, ends, exits}
 use Rattle.query.specs.Query.{asked_refusal_by}
 use Rattle.query.proofs.check_asked.Goals as goal
 
--- three checks, joined as code joins them
-joined : (r s w : Refusal) → (w.number ≡ 0 → w ≡ none) → otherwise (otherwise r s) w ≡ first (r ∷ s ∷ w ∷ [])
-unfolding first
-joined r s w h = regroup r s w ∙ ap (λ (x : Refusal). otherwise r (otherwise s x)) (sym (last w h))
+pub returns-in_err-check : goal.returns-in_err-check
+unfolding asked_refusal_by
+returns-in_err-check c = exits _ _ c.from_residual.ensures.1 (stops c.check.ensures _ c.in_err-check.was)
 
-window-none : (d : Description) (w : Window) → (window_refusal d w).number ≡ 0 → window_refusal d w ≡ none
-unfolding window_refusal
-window-none d w h = first-none _ h
+pub returns-in_err-when : goal.returns-in_err-when
+unfolding asked_refusal_by number_of
+returns-in_err-when c =
+    let tiles = rw c.tiles_outside.ensures at c.when.ensures in
+    exits _ _ c.from_residual-in_err-when.ensures.1 (stops tiles _ c.in_err-when.was ∙ sym (passes c.check.ensures _ c.in_ok-check.was))
 
 pub returns : goal.returns
-unfolding asked_refusal_by
+unfolding asked_refusal_by number_of
 returns c =
-    let x = c.args in
-    join-next c.or-2.ensures
-    (join-next c.or.ensures c.check.ensures (rw c.tiles_outside-outside.ensures at c.when.ensures))
-    c.check_window.ensures
-    ∙ joined _ _ _ (window-none x.description x.window)
+    let tiles = rw c.tiles_outside.ensures at c.when.ensures in
+    let w = c.check_window.ensures in
+    w ∙ sym (passes c.check.ensures _ c.in_ok-check.was ∙ passes tiles _ c.in_ok-when.was ∙ ends _ _ w)

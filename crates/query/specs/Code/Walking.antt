@@ -7,10 +7,13 @@ use Rattle.description.specs.Limits.{Sizes}
 use Rattle.description.specs.Description.{kind_at, side_start, sides_of, bytes_of_box}
 use Rattle.ranges.specs.Ranges.{Ends, has_nan, meets}
 use Rattle.boxes.specs.Boxes.{all, read_to, side_at}
-use Rattle.windows.specs.Code.Carried.{carried_side}
+use Rattle.boxes.specs.declared.Window.{Window}
+use Rattle.windows.specs.Code.Carried.{carried_side, ends_of_window}
 use Rattle.tree.specs.Shape.{boxes, children, height, level_start, body_bytes, shape_of}
 use Rattle.tree.specs.Code.Run.{State, look, run}
 use Rattle.rtree.specs.declared.Shaped.{Shaped}
+use Rattle.query.specs.declared.Asked.{Asked}
+use Rattle.query.specs.declared.Plan.{Plan}
 use Rattle.query.specs.declared.Walk.{Walk}
 
 -- What does not change in a walk: the body and the table of its levels, the fanout, the bytes of a box; the window's
@@ -27,13 +30,20 @@ pub record Ground : Type 0 where
 abbrev pub ground : List ℕ → List ℕ → ℕ → ℕ → ℕ → List Dimension → List ℕ → Ground
 ground body table f b m kinds ends = record { body = body; table = table; f = f; b = b; m = m; kinds = kinds; ends = ends }
 
--- as the code carries it: the plan has the number of dimensions, the bytes of a box and the fanout, and then the table
-abbrev pub planned : List ℕ → List ℕ → List Dimension → List ℕ → Ground
-planned body plan kinds ends = ground body (drop 3 plan) (get_or plan 2 0) (get_or plan 1 0) (get_or plan 0 0) kinds ends
+-- as the code carries it: a body and a plan
+abbrev pub planned : List ℕ → Plan → Ground
+planned body plan =
+    ground body plan.table plan.fanout plan.box_bytes plan.asked.dimensions plan.asked.kinds plan.asked.ends
 
 -- and as it is known once the shape is checked
-abbrev pub shaped_ground : Description → Shaped → List ℕ → List ℕ → Ground
-shaped_ground d r body ends = ground body r.shape.table r.fanout (bytes_of_box d) (sides_of d.dimensions) d.kinds ends
+abbrev pub shaped_ground : Description → Shaped → List ℕ → Asked → Ground
+shaped_ground d r body a = ground body r.shape.table r.fanout (bytes_of_box d) a.dimensions a.kinds a.ends
+
+-- the window as the code carries it
+abbrev pub asked_of : Description → Window → Asked
+asked_of d w =
+    let m = sides_of d.dimensions in
+    record { dimensions = m; kinds = d.kinds; ends = ends_of_window w.sides m }
 
 -- the window's side of dimension i, as it is carried
 abbrev pub asked_side : List Dimension → List ℕ → ℕ → Ends
@@ -55,6 +65,16 @@ read_carried kinds ends m bytes = read_to (meets_at kinds ends bytes) 0 m
 pub record Carries (kinds : List Dimension) (ends : List ℕ) (m : ℕ) : Type 0 where
   pub few : m ≤ 4
   pub numbers : (i : ℕ) → i < m → has_nan (asked_side kinds ends i) ≡ false
+
+-- all three of a window as the code carries it
+abbrev pub meets_asked : Asked → List ℕ → Bool
+meets_asked a = meets_carried a.kinds a.ends a.dimensions
+
+abbrev pub read_asked : Asked → List ℕ → ℕ
+read_asked a = read_carried a.kinds a.ends a.dimensions
+
+abbrev pub Carried : Asked → Type 0
+Carried a = Carries a.kinds a.ends a.dimensions
 
 -- the number of tiles, the count of the leaves
 abbrev pub tiles_in : Ground → ℕ

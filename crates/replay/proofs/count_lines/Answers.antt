@@ -23,7 +23,7 @@ overflow_add-result c =
     ap (λ (k : ℕ). k + 1) c.newlines-ended.ensures ∙ counted-tail c.args.log.now some c.if-log-size-eq10.false in
     omega (arith, tail, lines-few c.args.log.now)
 
-pub returns : goal.returns
-returns c =
+pub returns-else-log-size-eq10 : goal.returns-else-log-size-eq10
+returns-else-log-size-eq10 c =
     let some : 0 < length c.args.log.now = omega arith in
     ap (λ (k : ℕ). k + 1) c.newlines-ended.ensures ∙ counted-tail c.args.log.now some c.if-log-size-eq10.false

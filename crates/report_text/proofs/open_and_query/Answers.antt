@@ -1,40 +1,37 @@
 -- `report_text::open_and_query` meets its contract: the first that refuses is the outcome, or else the listing. Assumes nothing.
 use mathlib.Core.Path.{◌≡◌, ◌∙◌}
-use borrow.Author.Tests.{not-true, not-false}
+use Rattle.std.proofs.lemmas.Result.{err_from_is_err_and}
 use Rattle.query.specs.Query.{query_buffer}
 use Rattle.report_text.specs.Text.{opened, answered, offsets_listed}
-use Rattle.report_text.proofs.Outcomes.{renders-bad, renders-open, renders-offsets, renders-query, renders-listing}
+use Rattle.report_text.proofs.Outcomes.{renders-open, renders-offsets, renders-query, renders-listing}
 use Rattle.report_text.proofs.open_and_query.Goals as goal
 
-pub returns-then-not-asked : goal.returns-then-not-asked
-returns-then-not-asked c =
+pub returns-in_err-pass : goal.returns-in_err-pass
+returns-in_err-pass c =
+    let p = err_from_is_err_and c.from_residual.result c.from_residual.ensures.1 in
     let x = c.args in
-    renders-bad x.asked x.footer.now x.tree.now x.offsets.now x.tiles.now (not-true _ c.if-not-asked.true) c.ended.ensures
+    rw (p.1, p.2) (renders-open x.asked x.footer.now x.tree.now x.offsets.now c.open-opened.ensures
+    x.tiles.now c.in_err-pass.ensures.err)
 
-pub returns-then-opened-ne0 : goal.returns-then-opened-ne0
-returns-then-opened-ne0 c =
-    let x = c.args in
-    renders-open x.asked x.footer.now x.tree.now x.offsets.now (not-false _ c.if-not-asked.false) c.open-opened.ensures
-    x.tiles.now c.if-opened-ne0.true c.ended-then-opened-ne0.ensures
-
-pub returns-then-listed-ne0 : goal.returns-then-listed-ne0
-returns-then-listed-ne0 c =
+pub returns-in_err-pass-2 : goal.returns-in_err-pass-2
+returns-in_err-pass-2 c =
+    let p = err_from_is_err_and c.from_residual-in_err-pass-2.result c.from_residual-in_err-pass-2.ensures.1 in
     let lists : c.open_offsets-listed.result ≡ offsets_listed c.args.asked c.args.footer.now c.args.tree.now c.args.offsets.now =
     c.open_offsets-listed.ensures.answer ∙ rw c.open-opened.ensures in
     let x = c.args in
-    renders-offsets x.asked x.footer.now x.tree.now x.offsets.now (not-false _ c.if-not-asked.false) c.open-opened.ensures
-    c.if-opened-ne0.false lists
-    x.tiles.now c.if-listed-ne0.true c.ended-then-listed-ne0.ensures
+    rw (p.1, p.2) (renders-offsets x.asked x.footer.now x.tree.now x.offsets.now c.open-opened.ensures
+    c.in_ok-pass.ensures.ok lists x.tiles.now c.in_err-pass-2.ensures.err)
 
-pub returns-then-answer-ne0 : goal.returns-then-answer-ne0
-returns-then-answer-ne0 c =
+pub returns-in_err-pass-3 : goal.returns-in_err-pass-3
+returns-in_err-pass-3 c =
+    let p = err_from_is_err_and c.from_residual-in_err-pass-3.result c.from_residual-in_err-pass-3.ensures.1 in
     let lists : c.open_offsets-listed.result ≡ offsets_listed c.args.asked c.args.footer.now c.args.tree.now c.args.offsets.now =
     c.open_offsets-listed.ensures.answer ∙ rw c.open-opened.ensures in
     let answers : c.query-answer.result ≡ answered c.args.asked c.args.footer.now c.args.tree.now =
     c.query-answer.ensures.answer ∙ rw c.open-opened.ensures in
     let x = c.args in
-    renders-query x.asked x.footer.now x.tree.now x.offsets.now (not-false _ c.if-not-asked.false) c.open-opened.ensures
-    c.if-opened-ne0.false lists c.if-listed-ne0.false answers _ c.if-answer-ne0.true c.ended-then-answer-ne0.ensures
+    rw (p.1, p.2) (renders-query x.asked x.footer.now x.tree.now x.offsets.now c.open-opened.ensures
+    c.in_ok-pass.ensures.ok lists c.in_ok-pass-2.ensures.ok answers _ c.in_err-pass-3.ensures.err)
 
 pub returns : goal.returns
 returns c =
@@ -45,6 +42,6 @@ returns c =
     let leaves : c.query-answer.new.out ≡ query_buffer c.args.asked.description (opened c.args.asked c.args.footer.now c.args.tree.now).tiles c.args.tree.now c.args.asked.window c.args.tiles.now =
     c.query-answer.ensures.buffer ∙ rw c.open-opened.ensures in
     let x = c.args in
-    renders-listing x.asked x.footer.now x.tree.now x.offsets.now (not-false _ c.if-not-asked.false) c.open-opened.ensures
-    c.if-opened-ne0.false lists c.if-listed-ne0.false answers c.if-answer-ne0.false
+    renders-listing x.asked x.footer.now x.tree.now x.offsets.now c.open-opened.ensures
+    c.in_ok-pass.ensures.ok lists c.in_ok-pass-2.ensures.ok answers c.in_ok-pass-3.ensures.ok
     x.tiles.now _ c.requires.0 c.requires.1 leaves (rw (c.check-checked.ensures, answers, c.open-opened.ensures))

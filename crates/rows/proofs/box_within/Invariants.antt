@@ -2,7 +2,7 @@
 -- dimensions from i on are, since the ones before were.
 -- Assumes nothing.
 use mathlib.Core.Path.{◌≡◌}
-use Prim.Native.Nat.{◌-◌, ◌≤◌}
+use Prim.Native.Nat.{◌≤◌}
 use Rattle.description.specs.Description.{side_start}
 use Rattle.rows.specs.Code.Row.{sound_inside}
 use Rattle.boxes.proofs.Boxes.{Left}
@@ -10,6 +10,3 @@ use Rattle.rows.proofs.box_within.Given as goal
 
 abbrev pub invariant-loop-i : goal.invariant-loop-i
 invariant-loop-i l = (l.i ≤ l.n) × (l.at ≡ side_start l.kinds l.i) × Left (sound_inside l.kinds l.bytes l.outer) l.n l.i
-
-abbrev pub decreases-loop-i : goal.decreases-loop-i
-decreases-loop-i l = 4 - l.i

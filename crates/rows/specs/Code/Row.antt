@@ -1,7 +1,8 @@
 -- The boxes of a row, one after the other, each held against one box around them all. Nothing here is promised to a
 -- user of the library. Assumes nothing.
-use Rattle.std.specs.Prelude.{ℕ, ◌+◌, ◌*◌, ◌/◌, ◌≤◌, ◌<◌, ◌≡◌, Bool, true, ◌&&◌, List, eqb, length, take, drop}
+use Rattle.std.specs.Prelude.{ℕ, Option, MatchOption, ◌+◌, ◌-◌, ◌*◌, ◌/◌, ◌≤◌, ◌<◌, ◌≡◌, Bool, true, false, ◌&&◌, List, eqb, length, take, drop}
 use Rattle.answers.specs.Checks.{each}
+use Rattle.answers.specs.Refusals.{none}
 use Rattle.answers.specs.declared.Refusal.{Refusal}
 use Rattle.description.specs.declared.Kind.{Kind}
 use Rattle.description.specs.declared.Dimension.{Dimension}
@@ -10,7 +11,8 @@ use Rattle.description.specs.Description.{kind_at, side_start}
 use Rattle.ranges.specs.Ranges.{ends_at, inside}
 use Rattle.verdicts.specs.declared.Verdict.{Verdict}
 use Rattle.verdicts.specs.Verdicts.{is_finite, verdict_at, stored_refusal}
-use Rattle.boxes.specs.Boxes.{box_refusal}
+use Rattle.boxes.specs.Boxes.{all, box_refusal}
+use Rattle.rows.specs.declared.Standing.{Standing}
 
 -- a verdict that no refusal comes of
 abbrev pub is_sound : Verdict → Bool
@@ -41,3 +43,30 @@ module _ (kinds : List Dimension) (m : ℕ) (row outer : List ℕ) (number : ℕ
   -- the first box with a fault, placed in the row
   unfoldable pub row_refusal : Refusal
   row_refusal = each row_box 0 (length row / side_start kinds m)
+
+-- the fault of a box, as a type that tells a refusal has it: nothing where nothing is refused
+abbrev pub Fault : {T : Type 0} → (T → Refusal) → Option T → Refusal → Type 0
+Fault tells fault r = MatchOption fault (r.number ≡ 0) (λ t. (tells t ≡ r) × (r.number ≡ 0 → ⊥))
+
+-- the boxes of a row before the place `at` said nothing
+pub record RowAt (kinds : List Dimension) (m : ℕ) (row outer : List ℕ) (number at : ℕ) : Type 0 where
+  pub index : ℕ
+  pub place : at ≡ index * side_start kinds m
+  pub there : at ≤ length row
+  pub same : row_refusal kinds m row outer number
+      ≡ each (row_box kinds m row outer number) index (length row / side_start kinds m - index)
+
+module _ (kinds : List Dimension) (m : ℕ) (row outer : List ℕ) (from : ℕ) where
+  -- a box of the row from a place on, before which none has a fault, is not sound and inside
+  pub record ApartAt (b : Standing) : Type 0 where
+    pub some : 0 < side_start kinds m
+    pub end : b.end ≡ b.start + side_start kinds m
+    pub on : from ≤ b.start
+    pub there : side_start kinds m ≤ length row - b.start
+    pub apart : all (sound_inside kinds (take (b.start + side_start kinds m - b.start) (drop b.start row)) outer) 0 m ≡ false
+    pub before : (number : ℕ) → RowAt kinds m row outer number from → RowAt kinds m row outer number b.start
+
+  -- the next such box, or none is left
+  abbrev pub NextApart : Option Standing → Type 0
+  NextApart found =
+      MatchOption found ((number : ℕ) → RowAt kinds m row outer number from → none ≡ row_refusal kinds m row outer number) ApartAt

@@ -1,7 +1,6 @@
 -- `rtree::check_counts` meets its contract. The invariant: what the levels from here down say is what all of them say.
--- The measure is the number of levels that are left.
 -- Assumes nothing.
-use Prim.Native.Nat.{◌-◌, ◌≤◌}
+use Prim.Native.Nat.{◌-◌}
 use mathlib.Core.Path.{◌≡◌}
 use Rattle.answers.specs.Checks.{each}
 use Rattle.rtree.specs.Code.Shaped.{table_count_refusal, table_refusal}
@@ -9,8 +8,4 @@ use Rattle.rtree.proofs.check_counts.Given as goal
 
 abbrev pub invariant-loop-i : goal.invariant-loop-i
 invariant-loop-i l =
-    (l.i ≤ l.levels)
-    × (each (λ i. table_count_refusal l.body l.table (l.levels - 1 - i)) l.i (l.levels - l.i) ≡ table_refusal l.body l.table l.levels)
-
-abbrev pub decreases-loop-i : goal.decreases-loop-i
-decreases-loop-i l = l.levels - l.i
+    each (λ i. table_count_refusal l.body l.table (l.levels - 1 - i)) l.i (l.levels - l.i) ≡ table_refusal l.body l.table l.levels

@@ -1,31 +1,16 @@
--- `text::write` meets its contract. The invariant: the bytes still to come over what stands there now are all of them over what stood
--- there first. Assumes nothing.
-use mathlib.Core.Path.{refl, sym, ◌∙◌}
-use native.Mathlib.Omega.{arith}
-use lib.ListN.{drop}
+-- `text::write` meets its contract: the bytes that fall into the buffer are one part of the word, and one of the buffer.
+-- Assumes nothing.
+use Rattle.std.proofs.Common.{◌≡◌, ◌+◌, ◌-◌, arith, refl}
 use Rattle.text.specs.Write.{seen}
-use Rattle.text.proofs.Writing.{bytes-done, sets-past}
+use Rattle.text.proofs.Writing.{stored}
 use Rattle.text.proofs.write.Goals as goal
-
--- at the end of the buffer nothing more is stored
-pub returns-then-out-place : goal.returns-then-out-place
-unfolding seen
-returns-then-out-place c =
-    let l = c in
-    let e = l in
-    let x = e.args in (
-      refl,
-      sym (sets-past l.loop-i.out l.loop-i.place (drop l.loop-i.i x.word.now) (omega arith)) ∙ l.loop-i.invariant.1
-          ∙ rw (l.less-place.ensures, e.less-i.ensures),
-    )
 
 pub returns : goal.returns
 unfolding seen
 returns c =
-    let l = c in
-    let e = l in
-    let x = e.args in (
-      refl,
-      sym (bytes-done l.loop-i.out x.word.now l.loop-i.place l.loop-i.i (omega arith)) ∙ l.loop-i.invariant.1
-          ∙ rw (l.less-place.ensures, e.less-i.ensures),
-    )
+    let x = c.args in
+    let n = c.min-count.result in
+    let k : c.min-place.result + n - c.min-place.result ≡ n = omega arith in
+    let j : c.min-skipped.result + n - c.min-skipped.result ≡ n = omega arith in
+    let done = stored x.out.now x.word.now c.saturating_sub-2.result c.saturating_sub.result c.min-place.ensures c.min-skipped.ensures c.min-count.ensures k j in
+    (refl, rw (c.copy_from_slice.ensures.after, ← c.saturating_sub-2.ensures, ← c.saturating_sub.ensures) done)

@@ -7,8 +7,8 @@ use Rattle.text.specs.Write.{field}
 use Rattle.text.proofs.Writing.{seen-sets, field-short, stored_there, stored-read}
 use Rattle.text.proofs.write_field.Goals as goal
 
-pub returns-then-less-ge21 : goal.returns-then-less-ge21
-returns-then-less-ge21 c =
+pub returns-then-saturating_sub-ge21 : goal.returns-then-saturating_sub-ge21
+returns-then-saturating_sub-ge21 c =
     let p = c in
     let x = p.args in
     (p.put_field.ensures.0, p.put_field.ensures.1 ∙ seen-sets x.from x.out.now x.at (field x.n x.end) (omega arith))

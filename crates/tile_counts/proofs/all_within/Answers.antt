@@ -1,15 +1,16 @@
--- `tile_counts::all_within` meets its contract. The invariant: every count before i is at most the capacity.
--- Assumes nothing.
-use Prim.Native.Nat.{◌-◌, ◌≤◌}
+-- `tile_counts::all_within` meets its contract: what the test says of each full tile, and the last one's own. Assumes
+-- nothing.
+use Rattle.std.proofs.Common.{◌≡◌, ◌-◌, rules, arith}
+use borrow.Author.Tests.{leb-true}
 use Rattle.lists.specs.Lists.{entry}
-use Rattle.tile_metadata.proofs.Turns.{joined}
 use Rattle.tile_counts.proofs.Counts.{within-cells}
 use Rattle.tile_counts.proofs.all_within.Goals as goal
 
-pub returns : goal.returns
-returns c e =
+pub returns-then-all_hold_by_eights : goal.returns-then-all_hold_by_eights
+returns-then-all_hold_by_eights c = λ e.
     let a = c.args in
-    within-cells a.n a.last_cells a.capacity a.body.now c.requires.le_n
-    (joined (λ j. entry a.body.now j ≤ a.capacity) 0 c.loop-i.i (a.n - 1) c.loop-i.invariant.1
-    (c.within-2.ensures c.if-not-within-2.false))
-    (c.within-3.ensures e)
+    let s = a.body.now in
+    let last = leb-true (entry s (a.n - 1)) a.last_cells (rw c.word_at.ensures at e) in
+    within-cells a.n a.last_cells a.capacity s c.requires.le_n
+    (λ j _ l. let h = c.all_hold_by_eights.ensures.holds c.if-all_hold_by_eights.true j l in leb-true (entry s j) a.capacity (search (rules, h)))
+    (λ j low high. let at : j ≡ a.n - 1 = omega arith in rw at last)

@@ -5,6 +5,7 @@ use Prim.Native.Nat.{ℕ, ◌+◌, ◌*◌, ◌≤◌, ◌<◌}
 use native.Mathlib.Omega.{arith}
 use lib.ListN.{length}
 use borrow.Author.Tests.{lt-ltb, le-ltb}
+use Rattle.answers.specs.Told.{told, number_of}
 use Rattle.lists.specs.Lists.{entry}
 use Rattle.lists.proofs.Header.{sound}
 use Rattle.entries.proofs.Entries.{entries-decide}
@@ -19,14 +20,13 @@ unfolding value_of
 entry-told n i s h e = rw (lt-ltb i n h) at e
 
 pub returns-then-cells-eight_at : goal.returns-then-cells-eight_at
-unfolding counts_refusal
+unfolding counts_refusal told number_of
 returns-then-cells-eight_at c =
     let a = c.args in
     let told = entry-told a.tiles c.loop-i.i a.body.now c.loop-i-test.true c.eight_at.ensures in
     let above = lt-ltb _ _ (rw (c.cells_at-cells.ensures, told) at c.if-cells-eight_at.true) in
-    c.new.ensures
-    ∙ broken c.loop-i.invariant c.loop-i-test.true (omega arith) above
-    ∙ sym (entries-decide _ _ _ _ c.requires)
+    rw c.at.ensures
+    (broken c.loop-i.invariant c.loop-i-test.true (omega arith) above ∙ sym (entries-decide _ _ _ _ c.requires))
 
 pub loop-i-preserved : goal.loop-i-preserved
 loop-i-preserved c =
@@ -36,10 +36,9 @@ loop-i-preserved c =
     kept c.loop-i.invariant c.loop-i-test.true not-above
 
 pub returns : goal.returns
-unfolding counts_refusal
+unfolding counts_refusal told
 returns c =
-    c.none.ensures
-    ∙ all-kept c.loop-i.invariant c.loop-i-test.false
+    all-kept c.loop-i.invariant c.loop-i-test.false
     ∙ sym (entries-decide _ _ _ _ c.requires)
 
 pub overflow_mul-i : goal.overflow_mul-i

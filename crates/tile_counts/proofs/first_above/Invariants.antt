@@ -1,5 +1,4 @@
 -- `tile_counts::first_above` meets its contract. The invariant: the counts from i on decide. Assumes nothing.
-use Prim.Native.Nat.{◌-◌}
 use lib.Dec.{ltb}
 use Rattle.answers.specs.Refusals.{null_count}
 use Rattle.footer.specs.Answer.{cells_of}
@@ -10,6 +9,3 @@ use Rattle.tile_counts.proofs.first_above.Given as goal
 abbrev pub invariant-loop-i : goal.invariant-loop-i
 invariant-loop-i l =
     Left (λ j. ltb (cells_of l.tiles l.last_cells l.capacity j) (entry l.body j)) null_count 8 l.tiles l.i
-
-abbrev pub decreases-loop-i : goal.decreases-loop-i
-decreases-loop-i l = l.tiles - l.i

@@ -1,5 +1,5 @@
 -- `tile_runs::cells_at` meets its contract. The invariant: what is still to be told, over what stands in the buffer
--- now, is all of it over what stood there first. The measure is the number of tiles left. Assumes nothing.
+-- now, is all of it over what stood there first. Assumes nothing.
 use mathlib.Core.Path.{refl}
 use Rattle.tile_runs.proofs.Told.{told-one, told-done}
 use Rattle.tile_runs.proofs.cells_at.Goals as goal

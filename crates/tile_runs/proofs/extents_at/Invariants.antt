@@ -1,8 +1,8 @@
 -- `tile_runs::extents_at` meets its contract. The invariant: what is still to be told, over what stands in the buffer
--- now, is all of it over what stood there first. The measure is the number of tiles left. Assumes nothing.
+-- now, is all of it over what stood there first. Assumes nothing.
 use mathlib.Core.Path.{◌≡◌}
 use mathlib.Core.List.{[], ◌∷◌}
-use Prim.Native.Nat.{◌-◌, ◌/◌, min}
+use Prim.Native.Nat.{◌/◌, min}
 use lib.ListN.{length, get_or}
 use Rattle.lists.specs.Offsets.{offset_of, extent_of}
 use Rattle.tile_runs.proofs.Told.{Told}
@@ -12,6 +12,3 @@ abbrev pub invariant-loop-k : goal.invariant-loop-k
 invariant-loop-k l =
     (l.count ≡ min (length l.run) (length l.initial.out / 2))
     × Told 2 (λ j. offset_of l.tiles l.body (get_or l.run j 0) ∷ extent_of l.tiles l.size l.body (get_or l.run j 0) ∷ []) l.count l.initial.out l.out l.k
-
-abbrev pub decreases-loop-k : goal.decreases-loop-k
-decreases-loop-k l = l.count - l.k

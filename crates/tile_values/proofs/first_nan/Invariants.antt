@@ -1,6 +1,4 @@
 -- `tile_values::first_nan` meets its contract. The invariant: the values from i on decide. Assumes nothing.
-use mathlib.Core.Path.{◌≡◌}
-use Prim.Native.Nat.{◌-◌}
 use Rattle.answers.specs.Refusals.{not_a_number}
 use Rattle.description.specs.Kinds.{end_bytes, is_nan}
 use Rattle.tile_values.specs.Values.{pattern}
@@ -9,7 +7,4 @@ use Rattle.tile_values.proofs.first_nan.Given as goal
 
 abbrev pub invariant-loop-i : goal.invariant-loop-i
 invariant-loop-i l =
-    (l.width ≡ end_bytes l.kind) × Left (λ j. is_nan l.kind (pattern l.kind l.body j)) not_a_number (end_bytes l.kind) l.n l.i
-
-abbrev pub decreases-loop-i : goal.decreases-loop-i
-decreases-loop-i l = l.n - l.i
+    Left (λ j. is_nan l.kind (pattern l.kind l.body j)) not_a_number (end_bytes l.kind) l.n l.i

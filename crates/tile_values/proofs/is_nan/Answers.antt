@@ -12,14 +12,14 @@ unfolding is_nan
 returns-in-Float32 c =
     let a = c.args in
     when-known (λ k. is_nan k (little a.value.now 0 (end_bytes k))) c.in-Float32.is
-    (c.f32_nan_pattern.ensures ∙ ap (nan_bits binary32) c.u32_at.ensures)
+    (c.nan_pattern.ensures ∙ ap (nan_bits binary32) c.u32_at.ensures)
 
 pub returns-in-Float64 : goal.returns-in-Float64
 unfolding is_nan
 returns-in-Float64 c =
     let a = c.args in
     when-known (λ k. is_nan k (little a.value.now 0 (end_bytes k))) c.in-Float64.is
-    (c.f64_nan_pattern.ensures ∙ ap (nan_bits binary64) c.u64_at.ensures)
+    (c.nan_pattern-in-Float64.ensures ∙ ap (nan_bits binary64) c.u64_at.ensures)
 
 pub returns-in-Int32 : goal.returns-in-Int32
 returns-in-Int32 c = no_nan c.args.kind _ c.in-Int32.is

@@ -13,28 +13,28 @@ unfolding key
 returns-in-Int32 c =
     let a = c.args in
     when-known (λ k. key k (little a.body.now a.at (end_bytes k))) c.in-Int32.is
-    (c.i32_key.ensures ∙ ap (signed_key w32) c.u32_at.ensures)
+    (c.key.ensures ∙ ap (signed_key w32) c.u32_at.ensures)
 
 pub returns-in-Int64 : goal.returns-in-Int64
 unfolding key
 returns-in-Int64 c =
     let a = c.args in
     when-known (λ k. key k (little a.body.now a.at (end_bytes k))) c.in-Int64.is
-    (c.i64_key.ensures ∙ ap (signed_key w64) c.u64_at.ensures)
+    (c.key-in-Int64.ensures ∙ ap (signed_key w64) c.u64_at.ensures)
 
 pub returns-in-Float32 : goal.returns-in-Float32
 unfolding key
 returns-in-Float32 c =
     let a = c.args in
     when-known (λ k. key k (little a.body.now a.at (end_bytes k))) c.in-Float32.is
-    (c.f32_key.ensures ∙ ap (float_key binary32) c.u32_at-in-Float32.ensures)
+    (c.key-in-Float32.ensures ∙ ap (float_key binary32) c.u32_at-in-Float32.ensures)
 
 pub returns-in-Float64 : goal.returns-in-Float64
 unfolding key
 returns-in-Float64 c =
     let a = c.args in
     when-known (λ k. key k (little a.body.now a.at (end_bytes k))) c.in-Float64.is
-    (c.f64_key.ensures ∙ ap (float_key binary64) c.u64_at-in-Float64.ensures)
+    (c.key-in-Float64.ensures ∙ ap (float_key binary64) c.u64_at-in-Float64.ensures)
 
 pub returns-in-Uint64 : goal.returns-in-Uint64
 unfolding key

@@ -1,7 +1,6 @@
 -- `var_values::first_break` meets its contract: the starts decide. Assumes nothing.
 use mathlib.Core.Path.{sym, ap, ◌∙◌}
 use native.Mathlib.Omega.{arith}
-use borrow.Author.Rules.{rules}
 use Rattle.lists.specs.VarOffsets.{starts_refusal}
 use Rattle.tile_metadata.proofs.Bodies.{laid}
 use Rattle.var_values.proofs.VarValues.{starts-say}
@@ -19,9 +18,7 @@ overflow_add-end c =
 
 pub returns : goal.returns
 returns c =
-    let r = c in
-    let p = r in
-    let a = p.args in
+    let a = c.args in
     c.check_starts.ensures
-    ∙ ap (λ z. starts_refusal a.tiles z a.body.now) r.u64_at-size.ensures
-    ∙ sym (starts-say a.tiles a.body.now p.requires)
+    ∙ ap (λ z. starts_refusal a.tiles z a.body.now) c.u64_at-size.ensures
+    ∙ sym (starts-say a.tiles a.body.now c.requires)

@@ -1,7 +1,6 @@
 -- `var_values::tile_var_place` meets its contract: what `var_place_at` answers for as many tiles as the check does.
 -- Assumes nothing.
 use mathlib.Core.Path.{ap, ◌∙◌}
-use borrow.Author.Rules.{rules}
 use Rattle.tile_metadata.specs.declared.TileValues.{TileValues}
 use Rattle.var_values.specs.VarValues.{var_values_refusal, var_place_of}
 use Rattle.tile_metadata.proofs.Asked.{one-asked}

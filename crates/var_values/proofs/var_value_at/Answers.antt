@@ -3,9 +3,7 @@ use mathlib.Core.Path.{◌≡◌, ap, ◌∙◌}
 use Prim.Native.Nat.{ℕ, ◌+◌, ◌-◌, ◌≤◌}
 use native.Mathlib.Omega.{arith}
 use lib.ListN.{length, take, drop}
-use borrow.Author.Rules.{rules}
-use Rattle.lists.specs.declared.Extent.{Extent}
-use Rattle.var_values.specs.VarValues.{var_place_of, var_value_of}
+use Rattle.var_values.specs.VarValues.{var_value_of}
 use Rattle.var_values.proofs.VarValues.{place-within}
 use Rattle.var_values.proofs.var_value_at.Goals as goal
 

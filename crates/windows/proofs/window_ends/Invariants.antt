@@ -2,7 +2,7 @@
 -- Assumes nothing.
 use mathlib.Core.Path.{◌≡◌}
 use mathlib.Core.List.{List}
-use Prim.Native.Nat.{ℕ, ◌-◌, ◌≤◌, ◌<◌}
+use Prim.Native.Nat.{ℕ, ◌<◌}
 use Rattle.description.specs.declared.Kind.{Kind}
 use Rattle.ranges.specs.Ranges.{Ends, kind_of, ends_of}
 use Rattle.boxes.specs.declared.Side.{Side}
@@ -19,7 +19,4 @@ kind sides i = kind_of (range_in sides i)
 
 abbrev pub invariant-loop-i : goal.invariant-loop-i
 invariant-loop-i l =
-    (l.i ≤ l.n) × (l.ends ≡ carried (side l.sides) l.i) × ((j : ℕ) → j < l.i → Fits (side l.sides) (kind l.sides) j)
-
-abbrev pub decreases-loop-i : goal.decreases-loop-i
-decreases-loop-i l = l.n - l.i
+    (l.ends ≡ carried (side l.sides) l.i) × ((j : ℕ) → j < l.i → Fits (side l.sides) (kind l.sides) j)

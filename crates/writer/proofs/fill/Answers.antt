@@ -1,6 +1,5 @@
 -- `writer::fill` meets its contract. The invariant: from the level at distance j - 1 on the buffer has what the body has
--- there (`Down`), since it has the leaves at their place. The measure is the number of levels that are left.
--- Assumes nothing.
+-- there (`Down`), since it has the leaves at their place. Assumes nothing.
 use Prim.Native.Nat.{ℕ, suc, ◌+◌, ◌-◌, ◌≤◌, ◌<◌}
 use mathlib.Core.Path.{◌≡◌, ap, ◌∙◌}
 use mathlib.Core.Bool.{cond}

@@ -1,6 +1,5 @@
 -- `writer::fill` meets its contract. The invariant: from the level at distance j - 1 on the buffer has what the body has
--- there (`Down`), since it has the leaves at their place. The measure is the number of levels that are left.
--- Assumes nothing.
+-- there (`Down`), since it has the leaves at their place. Assumes nothing.
 use Prim.Native.Nat.{ℕ, ◌-◌, ◌≤◌}
 use mathlib.Core.List.{List}
 use Rattle.writer.specs.Code.Rows.{Filling}
@@ -13,6 +12,3 @@ invariant-loop-j l =
     × (l.j ≤ l.levels)
     × ((first : List ℕ) → Filling l.description l.tiles l.fanout l.leaves first → Down l.description l.tiles l.fanout l.leaves first 0 l.initial.out
     → Down l.description l.tiles l.fanout l.leaves first (l.j - 1) l.out)
-
-abbrev pub decreases-loop-j : goal.decreases-loop-j
-decreases-loop-j l = l.levels - l.j

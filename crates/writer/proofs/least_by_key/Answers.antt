@@ -1,6 +1,5 @@
 -- `writer::least_by_key` meets its contract. The invariant: the place is that of the last box that was read, and of the
--- boxes from `first` to it both patterns are the best. The measure is the number of boxes that are left.
--- Assumes nothing.
+-- boxes from `first` to it both patterns are the best. Assumes nothing.
 use Prim.Native.Nat.{suc, ◌+◌, ◌-◌, ◌*◌}
 use mathlib.Core.Path.{◌≡◌, refl, ◌∙◌}
 use native.Mathlib.Omega.{arith}

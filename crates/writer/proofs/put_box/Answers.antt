@@ -1,6 +1,5 @@
--- `writer::put_box` meets its contract. The invariant: the buffer holds the first i sides of the parent. The measure is
--- the number of sides that are left.
--- Assumes nothing.
+-- `writer::put_box` meets its contract. The invariant: the buffer holds the first i sides of the parent. Assumes
+-- nothing.
 use Prim.Native.Nat.{ℕ, suc, ◌+◌, ◌-◌, ◌≤◌, ◌<◌}
 use mathlib.Core.Path.{◌≡◌, refl, sym, ap, ◌∙◌}
 use mathlib.Core.List.{List}

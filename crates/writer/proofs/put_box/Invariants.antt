@@ -1,6 +1,5 @@
--- `writer::put_box` meets its contract. The invariant: the buffer holds the first i sides of the parent. The measure is
--- the number of sides that are left.
--- Assumes nothing.
+-- `writer::put_box` meets its contract. The invariant: the buffer holds the first i sides of the parent. Assumes
+-- nothing.
 use Prim.Native.Nat.{◌-◌, ◌≤◌}
 use mathlib.Core.Path.{◌≡◌}
 use lib.ListN.{length, drop}
@@ -17,6 +16,3 @@ invariant-loop-i l =
     × (l.side ≡ side_start l.kinds l.i)
     × (length l.out ≡ length l.initial.out)
     × (l.out ≡ sets l.initial.out l.at (join (least_side l.kinds l.n (box_in (drop l.start l.initial.out) (side_start l.kinds l.n)) l.first (l.count - 1)) 0 l.i))
-
-abbrev pub decreases-loop-i : goal.decreases-loop-i
-decreases-loop-i l = l.n - l.i

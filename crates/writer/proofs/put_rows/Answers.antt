@@ -1,6 +1,4 @@
--- `writer::put_rows` meets its contract. The invariant: the buffer holds the first k parents. The measure is the number of
--- parents that are left.
--- Assumes nothing.
+-- `writer::put_rows` meets its contract. The invariant: the buffer holds the first k parents. Assumes nothing.
 use mathlib.Core.Path.{refl, ap, ◌∙◌}
 use native.Mathlib.Omega.{arith}
 use lib.ListN.{length}

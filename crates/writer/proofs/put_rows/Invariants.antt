@@ -1,7 +1,5 @@
--- `writer::put_rows` meets its contract. The invariant: the buffer holds the first k parents. The measure is the number of
--- parents that are left.
--- Assumes nothing.
-use Prim.Native.Nat.{◌-◌, ◌≤◌}
+-- `writer::put_rows` meets its contract. The invariant: the buffer holds the first k parents. Assumes nothing.
+use Prim.Native.Nat.{◌≤◌}
 use mathlib.Core.Path.{◌≡◌}
 use lib.ListN.{length, drop}
 use lib.Seq.{sets}
@@ -14,6 +12,3 @@ invariant-loop-k l =
     (l.k ≤ l.parents)
     × (length l.out ≡ length l.initial.out)
     × (l.out ≡ sets l.initial.out l.start (join (parent_of l.description l.fanout (drop l.next l.initial.out) l.count) 0 l.k))
-
-abbrev pub decreases-loop-k : goal.decreases-loop-k
-decreases-loop-k l = l.parents - l.k

@@ -1,47 +1,27 @@
 -- `Description::check_limits` meets its contract: it goes through the definition's checks in their order. Assumes nothing.
-use mathlib.Core.Path.{sym, ◌∙◌}
-use native.Mathlib.Omega.{arith}
-use Rattle.answers.proofs.Checks.{past-check, stop-check, ended}
+use Rattle.std.proofs.Common.{sym, ◌∙◌}
+use Rattle.answers.specs.Told.{number_of}
+use Rattle.answers.proofs.Told.{stops, passes, ends, exits}
 use Rattle.description.specs.Description.{limits_refusal}
 use Rattle.description.proofs.Description.check_limits.Goals as goal
 
-pub returns-then-outside : goal.returns-then-outside
-unfolding limits_refusal
-returns-then-outside c =
-    c.new.ensures
-    ∙ sym (stop-check _ _ _ _ (sym c.outside.ensures ∙ c.if-outside.true) (omega arith))
+pub returns-in_err-when : goal.returns-in_err-when
+unfolding limits_refusal number_of
+returns-in_err-when c =
+    let a = rw c.outside-dimensions.ensures at c.when.ensures in
+    exits _ _ c.from_residual.ensures.1 (stops a _ c.in_err-when.was)
 
-pub returns-then-outside-2 : goal.returns-then-outside-2
-unfolding limits_refusal
-returns-then-outside-2 c =
-    let b = c in
-    c.new-then-outside-2.ensures
-    ∙ sym (
-    past-check _ _ _ _ (sym b.outside.ensures ∙ b.if-outside.false)
-    ∙ stop-check _ _ _ _ (sym b.outside-2.ensures ∙ c.if-outside-2.true) (omega arith)
-    )
-
-pub returns-then-outside-3 : goal.returns-then-outside-3
-unfolding limits_refusal
-returns-then-outside-3 c =
-    let b = c in
-    let a = b in
-    c.new-then-outside-3.ensures
-    ∙ sym (
-    past-check _ _ _ _ (sym a.outside.ensures ∙ a.if-outside.false)
-    ∙ past-check _ _ _ _ (sym a.outside-2.ensures ∙ b.if-outside-2.false)
-    ∙ stop-check _ _ _ _ (sym b.outside-3.ensures ∙ c.if-outside-3.true) (omega arith)
-    )
+pub returns-in_err-when-2 : goal.returns-in_err-when-2
+unfolding limits_refusal number_of
+returns-in_err-when-2 c =
+    let a = rw c.outside-dimensions.ensures at c.when.ensures in
+    let b = rw c.outside-fields.ensures at c.when-2.ensures in
+    exits _ _ c.from_residual-in_err-when-2.ensures.1 (stops b _ c.in_err-when-2.was ∙ sym (passes a _ c.in_ok-when.was))
 
 pub returns : goal.returns
-unfolding limits_refusal
+unfolding limits_refusal number_of
 returns c =
-    let b = c in
-    let a = b in
-    c.none.ensures
-    ∙ sym (
-    past-check _ _ _ _ (sym a.outside.ensures ∙ a.if-outside.false)
-    ∙ past-check _ _ _ _ (sym a.outside-2.ensures ∙ b.if-outside-2.false)
-    ∙ past-check _ _ _ _ (sym b.outside-3.ensures ∙ c.if-outside-3.false)
-    ∙ ended
-    )
+    let a = rw c.outside-dimensions.ensures at c.when.ensures in
+    let b = rw c.outside-fields.ensures at c.when-2.ensures in
+    let l = rw c.outside-capacity.ensures at c.when-3.ensures in
+    l ∙ sym (passes a _ c.in_ok-when.was ∙ passes b _ c.in_ok-when-2.was ∙ ends _ _ l)

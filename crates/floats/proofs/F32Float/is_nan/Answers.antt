@@ -1,0 +1,7 @@
+-- `floats::F32Float::is_nan` meets its contract: the law of `Read.antt` at its format. Assumes nothing.
+use lib.Ieee.{binary32}
+use Rattle.order.proofs.Read.{ne-of-floats}
+use Rattle.floats.proofs.F32Float.is_nan.Goals as goal
+
+pub returns : goal.returns
+returns c = ne-of-floats binary32 c.args.self c.well_formed.0.1

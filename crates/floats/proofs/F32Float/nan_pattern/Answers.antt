@@ -1,0 +1,7 @@
+-- `floats::F32Float::nan_pattern` meets its contract: the law of `Read.antt` at its format. Assumes nothing.
+use lib.Ieee.{binary32}
+use Rattle.order.proofs.Read.{nan-doubled}
+use Rattle.floats.proofs.F32Float.nan_pattern.Goals as goal
+
+pub returns : goal.returns
+returns c = nan-doubled binary32 c.args.p

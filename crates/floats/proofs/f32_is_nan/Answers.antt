@@ -1,7 +1,0 @@
--- `floats::f32_is_nan` meets its contract: the law of `Read.antt` at its format. Assumes nothing.
-use lib.Ieee.{binary32}
-use Rattle.order.proofs.Read.{ne-of-floats}
-use Rattle.floats.proofs.f32_is_nan.Goals as goal
-
-pub returns : goal.returns
-returns c = ne-of-floats binary32 c.args.x c.well_formed.0.1

@@ -1,7 +1,0 @@
--- `floats::f32_nan_pattern` meets its contract: the law of `Read.antt` at its format. Assumes nothing.
-use lib.Ieee.{binary32}
-use Rattle.order.proofs.Read.{nan-doubled}
-use Rattle.floats.proofs.f32_nan_pattern.Goals as goal
-
-pub returns : goal.returns
-returns c = nan-doubled binary32 c.args.p
