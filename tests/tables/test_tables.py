@@ -246,11 +246,14 @@ class Kinds(Same):
             self.assertIn(int(n), right, msg=f"{where} reads {n} as {name}")
 
     def test_code(self):
-        found = {}
+        found, read = {}, set()
         for path, text in CODE:
             found.update(self.arms(text, path))
-            self.reads(re.findall(r"\b(\d+) => Kind::(\w+)", text), path)
-            self.reads(re.findall(r"== (\d+) \{\s*(?:return )?Kind::(\w+)", text), path)
+            pairs = re.findall(r"\b(\d+) => (?:\w+\((?:\w+ \{ kind: )?)?Kind::(\w+)", text)
+            self.reads(pairs, path)
+            read.update((words(name), int(n)) for n, name in pairs)
+        # each Datatype number is read as its kind somewhere, and so are the bits of the two kinds that the report takes
+        self.assertEqual(read, set(self.numbers.items()) | {("int32", 32), ("int64", 64)})
         self.assertEqual(found.get("range_bytes"), "bytes")
         self.assertEqual(found.get("datatype", found.get("number")), "number")
         kinds = the_one(CODE, r"^pub enum Kind \{")

@@ -98,9 +98,9 @@ pub fn ask_from(
     ensures promises { Promises description tiles body.now window result.answer (drop used out.old) (drop used out.new) }
 {
     let room = out.len();
-    let start = used.min(room);
+    let start = answers::lesser(used, room);
     let answer = query::query(description, tiles, body, window, &mut out[start..]);
-    let more = (answer.found as usize).min(room - start);
+    let more = answers::lesser(answer.found as usize, room - start);
     Asked {
         answer,
         used: used + more,

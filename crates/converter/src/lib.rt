@@ -291,10 +291,10 @@ fn put_side(out: &mut [u8], at: usize, kind: Kind, bytes: &[u8], from: usize)
             put_widened(&mut out[at..at + 16], &bytes[from..from + 8]);
         }
         Kind::Int32 => {
-            out[at..at + 8].copy_from_slice(&bytes[from..from + 8]);
+            put_eight(&mut out[at..at + 8], &bytes[from..from + 8]);
         }
         Kind::Int64 | Kind::Float64 | Kind::Uint64 => {
-            out[at..at + 16].copy_from_slice(&bytes[from..from + 16]);
+            put_sixteen(&mut out[at..at + 16], &bytes[from..from + 16]);
         }
     }
 }
@@ -306,6 +306,25 @@ fn put_widened(out: &mut [u8], bytes: &[u8])
     let ends = order::pair_at::<u32>(bytes, 0);
     order::put_u64(out, 0, widen(ends.low));
     order::put_u64(out, 8, widen(ends.high));
+}
+
+// As one number: of two parts that may overlap, for all that it knows, the compiler copies byte by byte.
+fn put_eight(out: &mut [u8], bytes: &[u8])
+    requires out_len { length out.old ≡ 8 }
+    requires bytes_len { length bytes.now ≡ 8 }
+    ensures { out.new ≡ bytes.now }
+{
+    order::put_u64(out, 0, order::u64_at(bytes, 0));
+}
+
+// The same of two numbers.
+fn put_sixteen(out: &mut [u8], bytes: &[u8])
+    requires out_len { length out.old ≡ 16 }
+    requires bytes_len { length bytes.now ≡ 16 }
+    ensures { out.new ≡ bytes.now }
+{
+    order::put_u64(out, 0, order::u64_at(bytes, 0));
+    order::put_u64(out, 8, order::u64_at(bytes, 8));
 }
 
 // The float64 pattern of a float32 pattern's value.

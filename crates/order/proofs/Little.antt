@@ -1,7 +1,7 @@
 -- What do the bytes of a part stand for, and how large is it? Laws of `little`, over the number of bytes. Assumes
 -- nothing.
 use mathlib.Core.Path.{◌≡◌, refl, ap, ◌∙◌}
-use mathlib.Core.List.{List}
+use mathlib.Core.List.{List, [], ◌∷◌}
 use Prim.Native.Nat.{ℕ, zero, suc, ◌+◌, ◌-◌, ◌*◌, ◌%◌, ◌^◌, ◌≤◌, ◌<◌}
 use native.Mathlib.Nat.{mod-eq_of_lt, add_assoc, add-zero, zero-add, suc-add, mul-zero, mul_assoc, pow-succ'}
 use native.Mathlib.Numerals.{one-add}
@@ -62,3 +62,18 @@ pub little-lowest : (s : List ℕ) → ((i : ℕ) → Fits w8 (get_or s i 0)) �
 little-lowest s byte at m small h =
     let eight : m + (8 - m) ≡ 8 = omega arith in
     ap (λ (n : ℕ). n % 256 ^ m) (rw eight at (little-ends s at m (8 - m) h)) ∙ mod-eq_of_lt (little-lt s byte at m)
+
+-- the first eight bytes, each by itself, stand for what as many of the whole do
+pub little-eight : (s : List ℕ) (m : ℕ) → m ≤ 8
+    → little (get_or s 0 0 ∷ get_or s 1 0 ∷ get_or s 2 0 ∷ get_or s 3 0 ∷ get_or s 4 0 ∷ get_or s 5 0 ∷ get_or s 6 0 ∷ get_or s 7 0 ∷ []) 0 m ≡ little s 0 m
+unfolding little
+little-eight s zero h = refl
+little-eight s (suc zero) h = refl
+little-eight s (suc (suc zero)) h = refl
+little-eight s (suc (suc (suc zero))) h = refl
+little-eight s (suc (suc (suc (suc zero)))) h = refl
+little-eight s (suc (suc (suc (suc (suc zero))))) h = refl
+little-eight s (suc (suc (suc (suc (suc (suc zero)))))) h = refl
+little-eight s (suc (suc (suc (suc (suc (suc (suc zero))))))) h = refl
+little-eight s (suc (suc (suc (suc (suc (suc (suc (suc zero)))))))) h = refl
+little-eight s (suc (suc (suc (suc (suc (suc (suc (suc (suc m))))))))) h = omega arith

@@ -52,7 +52,7 @@ pub fn copy(out: &mut [u8], at: usize, bytes: &[u8])
     let n = out.len();
     if at <= n {
         if bytes.len() <= n - at {
-            out[at..at + bytes.len()].copy_from_slice(bytes);
+            store_all(out, at, bytes);
         }
     }
 }
@@ -180,14 +180,30 @@ fn word_at<W: Word>(s: &[u8], at: usize) -> W
     }
 }
 
-// All of its bytes are there. This compiles to one load.
+// All of its bytes are there. The length of the part is known where this is taken in, and it compiles to one load; a copy
+// of the part does not.
 fn there<W: Word>(s: &[u8], at: usize) -> W
     requires { at + W.SIZE ≤ length s.now }
     ensures { W.number result ≡ little s.now at W.SIZE }
 {
-    let mut bytes = [0u8; 8];
-    bytes[..W::SIZE].copy_from_slice(&s[at..at + W::SIZE]);
-    W::of_le(bytes)
+    let part = &s[at..at + W::SIZE];
+    W::of_le([
+        byte(part, 0),
+        byte(part, 1),
+        byte(part, 2),
+        byte(part, 3),
+        byte(part, 4),
+        byte(part, 5),
+        byte(part, 6),
+        byte(part, 7),
+    ])
+}
+
+// A byte of a part; past its end 0.
+fn byte(part: &[u8], i: usize) -> u8
+    ensures { result ≡ get_or part.now i 0 }
+{
+    if i < part.len() { part[i] } else { 0 }
 }
 
 // The room for all of its bytes is there. This compiles to one store.
@@ -197,6 +213,17 @@ fn store<W: Word>(x: W, out: &mut [u8], at: usize)
 {
     let bytes = x.to_le();
     out[at..at + W::SIZE].copy_from_slice(&bytes[..W::SIZE]);
+}
+
+// The room for all of the bytes is there. A method that copies a part of any length asks the C library for `memmove`, which
+// the library needs nowhere else; for this loop the compiler asks for `memcpy`.
+fn store_all(out: &mut [u8], at: usize, bytes: &[u8])
+    requires { at + length bytes.now ≤ length out.old }
+    ensures { out.new ≡ sets out.old at bytes.now }
+{
+    for i in 0..bytes.len() {
+        out[at + i] = bytes[i];
+    }
 }
 
 // The bytes of a number go to a place, if they all fit there.
@@ -219,7 +246,9 @@ fn bytes_left(n: usize, at: usize) -> usize
     if at < n { n - at } else { 0 }
 }
 
-// Fewer than eight bytes are left: the number of those, which is that of eight.
+// Fewer than eight bytes are left: the number of those, which is that of eight. Taken in where reads stand in a loop, it
+// would take registers from them.
+#[inline(never)]
 fn rest(s: &[u8], at: usize) -> u64
     requires { (at ≤ length s.now) × (length s.now < at + 8) }
     ensures { result ≡ little s.now at 8 }

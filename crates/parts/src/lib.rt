@@ -37,7 +37,7 @@ pub fn block(parts: Parts, work: &mut [u8], bytes: &[u8]) -> Parts
         return parts;
     }
     let room = room_left(parts.stated, c.done, c.kept);
-    let all = bytes.len().min(room as usize);
+    let all = answers::lesser(bytes.len(), room as usize);
     let mut held = parts.held;
     let r = take(parts, c, &mut held, work, &bytes[..all]);
     if r.number == 0 && all < bytes.len() {
@@ -316,7 +316,7 @@ fn take_item(
     if cursor.count <= cursor.index {
         return cursor;
     }
-    let boxes = (cursor.count - cursor.index).min(bytes.len() / box_bytes);
+    let boxes = answers::lesser(cursor.count - cursor.index, bytes.len() / box_bytes);
     let whole = boxes * box_bytes;
     take_boxes(parts, box_bytes, cursor, work, &bytes[..whole], boxes)
 }
@@ -333,7 +333,7 @@ fn gather(held: &mut [u8], kept: usize, bytes: &[u8], item: usize) -> Option<usi
     if kept == 0 && item <= bytes.len() {
         return None;
     }
-    let more = (item - kept).min(bytes.len());
+    let more = answers::lesser(item - kept, bytes.len());
     order::copy(held, kept, &bytes[..more]);
     Some(kept + more)
 }
@@ -441,7 +441,7 @@ fn take_boxes(
     let mut i: usize = 0;
     // the last run may have fewer
     while i < boxes {
-        let more = most.min(boxes - i);
+        let more = answers::lesser(most, boxes - i);
         let from = i * box_bytes;
         let to = from + more * box_bytes;
         c = take_run(parts, box_bytes, c, work, &bytes[from..to], more);
@@ -543,7 +543,7 @@ fn check_rows(
     let mut i: usize = 0;
     // of the first row and of the last one only a part may be there
     while i < boxes {
-        let more = row.min(boxes - i);
+        let more = answers::lesser(row, boxes - i);
         let from = i * box_bytes;
         let here = &bytes[from..from + more * box_bytes];
         let outer = part(work, place, box_bytes);

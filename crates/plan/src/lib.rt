@@ -253,7 +253,7 @@ fn skip(marks: &[u8], bytes: usize, at: usize) -> usize
     requires { (at ≤ bytes + 7) × (bytes + 64 < 2 ^ 64) }
     ensures { Skipped marks.now bytes at result }
 {
-    let end = bytes.min(marks.len());
+    let end = answers::lesser(bytes, marks.len());
     let mut k = at;
     while k + 32 <= end && !holds_mark(marks, k) {
         k += 32;

@@ -3,7 +3,7 @@
 use Prim.Native.Nat.{ℕ, ◌+◌, ◌*◌, ◌/◌, ◌%◌, ◌^◌, ◌<◌}
 use native.Mathlib.Nat.{div-add-mod'}
 use native.Mathlib.Omega.{arith}
-use mathlib.Core.Path.{◌≡◌, refl, ap, ◌∙◌}
+use mathlib.Core.Path.{◌≡◌, refl, sym, ap, ◌∙◌}
 use mathlib.Core.Bool.{Bool, true, false, ◌||◌, cond}
 use mathlib.Core.List.{List}
 use lib.Dec.{leb, ltb}
@@ -44,3 +44,10 @@ module _ (s : List ℕ) (byte : (i : ℕ) → Fits w8 (get_or s i 0)) where
   unfolding first_of_two second_of_two
   uppers-tell low high =
       rw (there-or-not (leb 16 (length s)) (little s 0 8) (upper-tells 0 low), there-or-not (leb 16 (length s)) (little s 8 8) (upper-tells 8 high)) refl
+
+-- ---- one of two is told, the first and then the second
+pub told-first : {t a : Bool} (b : Bool) → t ≡ a → t ≡ true → t ≡ (a || b)
+told-first b e h = h ∙ ap (λ (x : Bool). x || b) (sym h ∙ e)
+
+pub told-second : {t u a b : Bool} → t ≡ a → t ≡ false → u ≡ b → u ≡ (a || b)
+told-second {b = b} e h f = f ∙ ap (λ (x : Bool). x || b) (sym h ∙ e)

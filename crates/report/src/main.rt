@@ -157,7 +157,7 @@ fn print_from(
     if count <= from {
         return Ok(false);
     }
-    let n = (count - from).min(PART);
+    let n = answers::lesser(count - from, PART);
     rt.stdout().write_all(&out[..n])?;
     Ok(true)
 }

@@ -1,7 +1,7 @@
 // The sums of a field's tiles, which are raw numbers, and their null counts, with the footer.
 #![tactic(auto)]
 
-ghost use Rattle.std.specs.Prelude.{◌≡◌, true, ℕ, ◌+◌, ◌*◌, ◌≤◌, ◌<◌, length};
+ghost use Rattle.std.specs.Prelude.{◌≡◌, true, false, ℕ, ◌+◌, ◌*◌, ◌≤◌, ◌<◌, length};
 ghost use Rattle.answers.specs.Told.{told};
 ghost use Rattle.footer.specs.Answer.{cells_of};
 ghost use Rattle.lists.specs.Lists.{entry, list_refusal};
@@ -10,7 +10,7 @@ ghost use Rattle.tile_counts.specs.Counts.{null_count_answer};
 
 use answers::{Reason, Refused};
 use description::Description;
-use tile_metadata::{TileValues, Tiles, TwoBodies};
+use tile_metadata::{TileValues, TwoBodies};
 
 // The sums of a field.
 pub fn open_sums(tiles: u64, body: &[u8]) -> TileValues
@@ -92,7 +92,7 @@ fn all_within(n: usize, last_cells: u64, capacity: u64, body: &[u8]) -> bool
         → entry body.now i ≤ cells_of n last_cells capacity i }
 {
     let last = n - 1;
-    last.all_hold_by_eights(|i| word_at(body, i) <= capacity) && word_at(body, last) <= last_cells
+    all_hold_by_eights(last, |i| word_at(body, i) <= capacity) && word_at(body, last) <= last_cells
 }
 
 // Count i, which is there. A public function would test that it is, at each turn of a loop.
@@ -117,4 +117,34 @@ fn first_above(tiles: u64, last_cells: u64, capacity: u64, body: &[u8]) -> Resul
         }
     }
     Ok(())
+}
+
+// Whether a test holds of each of the first n tiles, eight at a time, which the compiler writes out. What a test asks is told
+// by whoever calls, and a public function asks nothing: so each crate that goes over tiles has a pass of its own.
+fn all_hold_by_eights<F: Fn(usize) -> bool>(n: usize, test: F) -> bool
+    requires { (i : ℕ) → i < n → F.pre test i }
+    ensures holds { result ≡ true → (i : ℕ) → i < n → F.post test i true }
+    ensures fails { result ≡ false → (i : ℕ) × (i < n) × F.post test i false }
+{
+    for block in 0..n / 8 {
+        let from = 8 * block;
+        if !all_between(from, from + 8, &test) {
+            return false;
+        }
+    }
+    all_between(n / 8 * 8, n, test)
+}
+
+// Whether a test holds of each tile from one on and before another. It goes through all of them, so that the compiler
+// takes several at once.
+fn all_between<F: Fn(usize) -> bool>(from: usize, to: usize, test: F) -> bool
+    requires { (i : ℕ) → from ≤ i → i < to → F.pre test i }
+    ensures holds { result ≡ true → (i : ℕ) → from ≤ i → i < to → F.post test i true }
+    ensures fails { result ≡ false → (i : ℕ) × (from ≤ i) × (i < to) × F.post test i false }
+{
+    let mut all = true;
+    for i in from..to {
+        all &= test(i);
+    }
+    all
 }

@@ -11,7 +11,7 @@ pub fn extents_at(body: &[u8], tiles: u64, size: u64, run: &[u32], out: &mut [u6
     ensures { out.new ≡ extents_told tiles size body.now run.now
         out.old }
 {
-    let count = run.len().min(out.len() / 2);
+    let count = answers::lesser(run.len(), out.len() / 2);
     for k in 0..count {
         let e = lists::extent_at(body, tiles, size, run[k] as u64);
         let at = 2 * k;
@@ -24,7 +24,7 @@ pub fn extents_at(body: &[u8], tiles: u64, size: u64, run: &[u32], out: &mut [u6
 pub fn cells_at(tiles: u64, last: u64, capacity: u64, run: &[u32], out: &mut [u64])
     ensures { out.new ≡ cells_told tiles last capacity run.now out.old }
 {
-    let count = run.len().min(out.len());
+    let count = answers::lesser(run.len(), out.len());
     for k in 0..count {
         out[k] = cells::cells_at(tiles, last, capacity, run[k] as u64);
     }

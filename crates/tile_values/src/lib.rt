@@ -14,7 +14,7 @@ use answers::{Reason, Refused};
 use description::Kind;
 use floats::Float;
 use ints::Int;
-use tile_metadata::{TileValues, Tiles, TwoBodies};
+use tile_metadata::{TileValues, TwoBodies};
 
 // The patterns of a tile's min and max.
 #[derive(Clone, Copy)]
@@ -143,8 +143,8 @@ fn no_nans(kind: Kind, n: usize, body: &[u8]) -> bool
     ensures { result ≡ true → (i : ℕ) → i < n → is_nan kind (pattern kind body.now i) ≡ false }
 {
     match kind {
-        Kind::Float32 => n.all_hold(|i| !nan_at(Kind::Float32, 4, i, body)),
-        Kind::Float64 => n.all_hold(|i| !nan_at(Kind::Float64, 8, i, body)),
+        Kind::Float32 => all_hold(n, |i| !nan_at(Kind::Float32, 4, i, body)),
+        Kind::Float64 => all_hold(n, |i| !nan_at(Kind::Float64, 8, i, body)),
         Kind::Int32 | Kind::Int64 | Kind::Uint64 => true,
     }
 }
@@ -235,11 +235,11 @@ fn in_order(kind: Kind, n: usize, mins: &[u8], maxes: &[u8]) -> bool
         → at_most (ordered kind) (pattern kind mins.now i) (pattern kind maxes.now i) ≡ true }
 {
     match kind {
-        Kind::Int32 => { n.all_hold(|i| ordered_at(Kind::Int32, 4, i, mins, maxes)) }
-        Kind::Int64 => { n.all_hold_by_eights(|i| ordered_at(Kind::Int64, 8, i, mins, maxes)) }
-        Kind::Float32 => { n.all_hold(|i| ordered_at(Kind::Float32, 4, i, mins, maxes)) }
-        Kind::Float64 => { n.all_hold(|i| ordered_at(Kind::Float64, 8, i, mins, maxes)) }
-        Kind::Uint64 => { n.all_hold_by_eights(|i| ordered_at(Kind::Uint64, 8, i, mins, maxes)) }
+        Kind::Int32 => { all_hold(n, |i| ordered_at(Kind::Int32, 4, i, mins, maxes)) }
+        Kind::Int64 => { all_hold_by_eights(n, |i| ordered_at(Kind::Int64, 8, i, mins, maxes)) }
+        Kind::Float32 => { all_hold(n, |i| ordered_at(Kind::Float32, 4, i, mins, maxes)) }
+        Kind::Float64 => { all_hold(n, |i| ordered_at(Kind::Float64, 8, i, mins, maxes)) }
+        Kind::Uint64 => { all_hold_by_eights(n, |i| ordered_at(Kind::Uint64, 8, i, mins, maxes)) }
     }
 }
 
@@ -290,4 +290,43 @@ fn u32_at_most(a: u32, b: u32) -> bool
     ensures { result ≡ leb a b }
 {
     a <= b
+}
+
+// Whether a test holds of each of the first n tiles. What a test asks is told by whoever calls, and a public function asks
+// nothing: so each crate that goes over tiles has a pass of its own.
+fn all_hold<F: Fn(usize) -> bool>(n: usize, test: F) -> bool
+    requires { (i : ℕ) → i < n → F.pre test i }
+    ensures holds { result ≡ true → (i : ℕ) → i < n → F.post test i true }
+    ensures fails { result ≡ false → (i : ℕ) × (i < n) × F.post test i false }
+{
+    all_between(0, n, test)
+}
+
+// The same, eight tiles at a time, which the compiler writes out.
+fn all_hold_by_eights<F: Fn(usize) -> bool>(n: usize, test: F) -> bool
+    requires { (i : ℕ) → i < n → F.pre test i }
+    ensures holds { result ≡ true → (i : ℕ) → i < n → F.post test i true }
+    ensures fails { result ≡ false → (i : ℕ) × (i < n) × F.post test i false }
+{
+    for block in 0..n / 8 {
+        let from = 8 * block;
+        if !all_between(from, from + 8, &test) {
+            return false;
+        }
+    }
+    all_between(n / 8 * 8, n, test)
+}
+
+// Whether a test holds of each tile from one on and before another. It goes through all of them, so that the compiler
+// takes several at once.
+fn all_between<F: Fn(usize) -> bool>(from: usize, to: usize, test: F) -> bool
+    requires { (i : ℕ) → from ≤ i → i < to → F.pre test i }
+    ensures holds { result ≡ true → (i : ℕ) → from ≤ i → i < to → F.post test i true }
+    ensures fails { result ≡ false → (i : ℕ) × (from ≤ i) × (i < to) × F.post test i false }
+{
+    let mut all = true;
+    for i in from..to {
+        all &= test(i);
+    }
+    all
 }

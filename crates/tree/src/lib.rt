@@ -53,7 +53,7 @@ pub fn shape_of(tiles: usize, fanout: usize, box_bytes: usize) -> Shape
 pub fn row_length(fanout: usize, below: usize, first: usize) -> usize
     ensures { result ≡ min fanout (below - first) }
 {
-    fanout.min(below.saturating_sub(first))
+    answers::lesser(fanout, below.saturating_sub(first))
 }
 
 // Of the level at distance j, in a shape's table: the place of its first box.

@@ -1,7 +1,7 @@
 // The mins and maxes of a var field, alone and as a pair, and a tile's value as a part of the lent body.
 #![tactic(auto)]
 
-ghost use Rattle.std.specs.Prelude.{◌≡◌, true, ℕ, ◌+◌, ◌*◌, ◌≤◌, ◌<◌, leb, length, unwrap_or};
+ghost use Rattle.std.specs.Prelude.{◌≡◌, true, false, ℕ, ◌+◌, ◌*◌, ◌≤◌, ◌<◌, leb, length, unwrap_or};
 ghost use Rattle.answers.specs.Told.{told};
 ghost use Rattle.lists.specs.Lists.{entry};
 ghost use Rattle.lists.specs.Offsets.{end_of};
@@ -11,7 +11,7 @@ ghost use Rattle.var_values.specs.VarValues.{var_place_of, var_place_answer, var
 
 use answers::Refused;
 use lists::Extent;
-use tile_metadata::{TileValues, Tiles, TwoBodies};
+use tile_metadata::{TileValues, TwoBodies};
 
 // The mins or the maxes of a field.
 pub fn open_var_values(tiles: u64, body: &[u8]) -> TileValues
@@ -130,7 +130,7 @@ fn starts_rise(n: usize, body: &[u8]) -> bool
     ensures { result ≡ true → (entry body.now 0 ≡ 0) × ((i : ℕ) → i < n
         → entry body.now i ≤ entry body.now (i + 1)) }
 {
-    word_at(body, 0) == 0 && n.all_hold_by_eights(|i| rises(i, body))
+    word_at(body, 0) == 0 && all_hold_by_eights(n, |i| rises(i, body))
 }
 
 // Whether start i is at most the next one, which are both there.
@@ -149,4 +149,34 @@ fn first_break(tiles: u64, body: &[u8]) -> Result<(), Refused>
     let end = 8 + 8 * tiles;
     let size = order::u64_at(body, end as usize);
     entries::check_starts(body, tiles, size)
+}
+
+// Whether a test holds of each of the first n tiles, eight at a time, which the compiler writes out. What a test asks is told
+// by whoever calls, and a public function asks nothing: so each crate that goes over tiles has a pass of its own.
+fn all_hold_by_eights<F: Fn(usize) -> bool>(n: usize, test: F) -> bool
+    requires { (i : ℕ) → i < n → F.pre test i }
+    ensures holds { result ≡ true → (i : ℕ) → i < n → F.post test i true }
+    ensures fails { result ≡ false → (i : ℕ) × (i < n) × F.post test i false }
+{
+    for block in 0..n / 8 {
+        let from = 8 * block;
+        if !all_between(from, from + 8, &test) {
+            return false;
+        }
+    }
+    all_between(n / 8 * 8, n, test)
+}
+
+// Whether a test holds of each tile from one on and before another. It goes through all of them, so that the compiler
+// takes several at once.
+fn all_between<F: Fn(usize) -> bool>(from: usize, to: usize, test: F) -> bool
+    requires { (i : ℕ) → from ≤ i → i < to → F.pre test i }
+    ensures holds { result ≡ true → (i : ℕ) → from ≤ i → i < to → F.post test i true }
+    ensures fails { result ≡ false → (i : ℕ) × (from ≤ i) × (i < to) × F.post test i false }
+{
+    let mut all = true;
+    for i in from..to {
+        all &= test(i);
+    }
+    all
 }

@@ -9,8 +9,8 @@ returns c =
     let x = c.args in
     let told = c.query-answer.ensures.answer in
     let left = c.query-answer.ensures.buffer in
-    let start : c.min-start.result ≡ min x.used (length x.out.now) = omega arith in
-    let more : c.min-more.result ≡ min c.query-answer.result.found (length x.out.now - c.min-start.result) = omega arith in
+    let start : c.lesser-start.result ≡ min x.used (length x.out.now) = omega arith in
+    let more : c.lesser-more.result ≡ min c.query-answer.result.found (length x.out.now - c.lesser-start.result) = omega arith in
     record {
       asked = step-used x.description x.tiles x.body.now x.window x.out.now x.used start told more;
       buffer = step-buffer x.description x.tiles x.body.now x.window x.out.now x.used start left;

@@ -18,7 +18,7 @@ returns-in-Int32 c =
     let there : c.args.from + 8 ≤ length c.args.bytes.now = rw c.in-Int32.is at c.requires.kind_in_bounds in
     let room : c.args.at + 8 ≤ length c.args.out.now = rw c.in-Int32.is at c.requires.kind_in_bounds_2 in
     let x = c.args in
-    rw c.in-Int32.is (copied-stored x.out.now x.bytes.now x.at x.from 8 _ there room c.copy_from_slice.ensures.after)
+    rw c.in-Int32.is (copied-stored x.out.now x.bytes.now x.at x.from 8 _ there room c.put_eight.ensures)
 
 pub returns-in-Int64 : goal.returns-in-Int64
 returns-in-Int64 c =
@@ -26,4 +26,4 @@ returns-in-Int64 c =
     let room : c.args.at + 16 ≤ length c.args.out.now = rw (sixteen-kinds c.args.kind c.in-Int64.is).new at c.requires.kind_in_bounds_2 in
     let x = c.args in
     rw ((sixteen-kinds c.args.kind c.in-Int64.is).same x.bytes.now x.from)
-    (copied-stored x.out.now x.bytes.now x.at x.from 16 _ there room c.copy_from_slice-in-Int64.ensures.after)
+    (copied-stored x.out.now x.bytes.now x.at x.from 16 _ there room c.put_sixteen.ensures)

@@ -1,16 +1,16 @@
--- `order::there` meets its contract: the first of the eight bytes are those of the part. Assumes nothing.
-use Rattle.std.proofs.Common.{◌≡◌, ◌∙◌, ◌+◌, ◌-◌, length, take, drop, arith}
-use lib.ListN.{length-take, length-drop}
-use lib.Seq.{take_at}
-use Rattle.order.proofs.Bytes.{little-same}
+-- `order::there` meets its contract: the bytes of the part, each by itself, are those of the whole from there on. Assumes
+-- nothing.
+use Rattle.std.proofs.Common.{◌∙◌, ◌+◌, ◌-◌, take, drop, arith}
+use native.Mathlib.Nat.{add-zero}
+use Rattle.order.proofs.Little.{little-eight, little-part}
 use Rattle.order.proofs.there.Goals as goal
 
 pub returns : goal.returns
 returns g c =
     let a = c.args in
     let m = g.W.Word.SIZE in
-    let own : a.at + c.SIZE-2.result - a.at ≡ m = omega (arith, c.SIZE-2.ensures) in
-    let part = c.copy_from_slice.new.self in
-    let same : part ≡ take m (drop a.at a.s.now) = c.copy_from_slice.ensures.after ∙ rw own in
-    let long : length part ≡ m = rw same (simp (length-take, length-drop) (omega (arith, c.requires))) in
-    c.of_le.ensures ∙ little-same _ a.s.now 0 a.at m (take_at part _ m long ∙ same)
+    let k = a.at + c.SIZE.result - a.at in
+    let part = take k (drop a.at a.s.now) in
+    c.of_le.ensures
+    ∙ rw (c.byte.ensures, c.byte-2.ensures, c.byte-3.ensures, c.byte-4.ensures, c.byte-5.ensures, c.byte-6.ensures, c.byte-7.ensures, c.byte-8.ensures)
+    (little-eight part m g.met.W.Word.small ∙ little-part a.s.now a.at k 0 m (omega (arith, c.SIZE.ensures)) ∙ rw add-zero)

@@ -14,7 +14,7 @@ use Rattle.parts.specs.Code.Cursor.{with_cursor}
 use Rattle.parts.proofs.Lists.{read_first}
 use Rattle.parts.proofs.Prefix.{begins-got, begins-next, begins-length}
 use Rattle.parts.proofs.Ends.{late-tree, ends-past}
-use Rattle.parts.proofs.block.Goals.{After-min-all, After-take-r, Start}
+use Rattle.parts.proofs.block.Goals.{After-lesser-all, After-take-r, Start}
 use Rattle.parts.proofs.block.Goals as goal
 
 pub returns-then-c-ne0 : goal.returns-then-c-ne0
@@ -31,11 +31,11 @@ held-length : (c : Start) → length c.args.parts.held ≡ 64
 held-length c = omega arith
 
 -- as many as are lent
-lent : (c : After-min-all) → length (take c.min-all.result c.args.bytes.now) ≡ c.min-all.result
-lent c = rw length-take (omega (arith, c.min-all.ensures))
+lent : (c : After-lesser-all) → length (take c.lesser-all.result c.args.bytes.now) ≡ c.lesser-all.result
+lent c = rw length-take (omega (arith, c.lesser-all.ensures))
 
 -- what holds once they are taken
-after : (c : After-take-r) → (let x = c.args in let all = c.min-all.result in
+after : (c : After-take-r) → (let x = c.args in let all = c.lesser-all.result in
     (d : Description) (F : ℕ) (footer : List ℕ) (stated : ℕ) (got : List ℕ) → Took d F footer stated got x.parts x.work.now
     → (body : List ℕ) → Begins (got ++ x.bytes.now) body
     → (length got + all ≤ stated) × (all < length x.bytes.now → length got + all ≡ stated) × (8 ≤ stated)
@@ -45,12 +45,12 @@ after c d F footer stated got took body begins =
     let x = c.args in
     let h = took body (begins-got got x.bytes.now body begins) in
     let g = h.going c.if-c-ne0.false in
-    let fits : length got + c.min-all.result ≤ stated = omega (arith, c.min-all.ensures, c.room_left-room.ensures, g.here, g.said, g.within) in
-    let first = read_first body (length got) x.bytes.now (begins-next got x.bytes.now body begins) c.min-all.result (omega (arith, c.min-all.ensures)) in (
+    let fits : length got + c.lesser-all.result ≤ stated = omega (arith, c.lesser-all.ensures, c.room_left-room.ensures, g.here, g.said, g.within) in
+    let first = read_first body (length got) x.bytes.now (begins-next got x.bytes.now body begins) c.lesser-all.result (omega (arith, c.lesser-all.ensures)) in (
       fits,
-      (λ more. omega (arith, c.min-all.ensures, c.room_left-room.ensures, g.here, g.said, g.within)),
+      (λ more. omega (arith, c.lesser-all.ensures, c.room_left-room.ensures, g.here, g.said, g.within)),
       g.enough,
-      rw (lent (goal.at.After-take-r c).After-min-all) at (c.take-r.ensures.1 d F footer stated body (length got) h first (omega (arith, lent (goal.at.After-take-r c).After-min-all, fits))),
+      rw (lent (goal.at.After-take-r c).After-lesser-all) at (c.take-r.ensures.1 d F footer stated body (length got) h first (omega (arith, lent (goal.at.After-take-r c).After-lesser-all, fits))),
     )
 
 pub returns-then-all-bytes : goal.returns-then-all-bytes
@@ -79,20 +79,20 @@ returns c = record {
       rw c.with_cursor-2.ensures (go (goal.at.returns c).After-take-r d F footer stated got took body begins c.else-r-eq0.either);
 }
   where
-    go : (c : After-take-r) → (let x = c.args in let all = c.min-all.result in
+    go : (c : After-take-r) → (let x = c.args in let all = c.lesser-all.result in
         (d : Description) (F : ℕ) (footer : List ℕ) (stated : ℕ) (got : List ℕ) → Took d F footer stated got x.parts x.work.now
         → (body : List ℕ) → Begins (got ++ x.bytes.now) body → ((c.take-r.result.number ≡ 0) × (length x.bytes.now ≤ all)) ⊎ (c.take-r.result.number ≡ 0 → ⊥)
         → Holds d F footer stated body c.take-r.new.work (with_cursor x.parts c.take-r.new.held c.take-r.result) (length (got ++ x.bytes.now)))
     go c d F footer stated got took body begins (inl none) =
         let a = after c d F footer stated got took body begins in
-        let all : c.min-all.result ≡ length c.args.bytes.now = omega (arith, c.min-all.ensures, none.1) in
+        let all : c.lesser-all.result ≡ length c.args.bytes.now = omega (arith, c.lesser-all.ensures, none.1) in
         rw length-append (rw all at a.3)
     go c d F footer stated got took body begins (inr some) =
         let a = after c d F footer stated got took body begins in
         record { decided = a.3.decided; going = λ z. absurd (some z) }
 
 pub slice_bounds-take-end-2 : goal.slice_bounds-take-end-2
-slice_bounds-take-end-2 c = sym (lent (goal.at.slice_bounds-take-end-2 c).After-min-all)
+slice_bounds-take-end-2 c = sym (lent (goal.at.slice_bounds-take-end-2 c).After-lesser-all)
 
 pub take-r-requires : goal.take-r-requires
 take-r-requires c = record {

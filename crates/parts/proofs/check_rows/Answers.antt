@@ -25,7 +25,7 @@ use Rattle.parts.specs.Code.Runs.{child_check}
 use Rattle.parts.specs.Code.Steps.{most_work}
 use Rattle.parts.proofs.Rows.{piece-said}
 use Rattle.parts.proofs.Runs.{some_bytes, most_bytes, most-boxes}
-use Rattle.parts.proofs.check_rows.Goals.{After-check_row-told, After-min-more, After-map_err, Start}
+use Rattle.parts.proofs.check_rows.Goals.{After-check_row-told, After-lesser-more, After-map_err, Start}
 use Rattle.parts.proofs.check_rows.Goals as goal
 
 -- the first row
@@ -66,31 +66,31 @@ loop-i-init c =
     )
 
 -- what is taken of the row
-turn : (c : After-min-more) → (let l = c.loop-i in
+turn : (c : After-lesser-more) → (let l = c.loop-i in
     let x = c.args in
-    let more = c.min-more.result in
+    let more = c.lesser-more.result in
     (0 < more) × (l.i + more ≤ x.boxes) × (more ≤ l.row)
     × (l.i * x.box_bytes + more * x.box_bytes ≤ length x.bytes.now))
 turn c =
     let l = c.loop-i in
     let x = c.args in
-    let more = c.min-more.result in
-    let inside : l.i + more ≤ x.boxes = omega (arith, c.min-more.ensures, l.invariant) in (
-      omega (arith, c.min-more.ensures, l.invariant, c.loop-i-test),
+    let more = c.lesser-more.result in
+    let inside : l.i + more ≤ x.boxes = omega (arith, c.lesser-more.ensures, l.invariant) in (
+      omega (arith, c.lesser-more.ensures, l.invariant, c.loop-i-test),
       inside,
-      omega (arith, c.min-more.ensures),
+      omega (arith, c.lesser-more.ensures),
       omega (arith, mul-le-mul_right x.box_bytes inside, c.requires.run_of.size),
     )
 
 -- a fault lies before the end of what is taken
 placed : (c : After-check_row-told) → (
-    (told c.check_row-told.result).place ≤ c.min-more.result * c.args.box_bytes)
+    (told c.check_row-told.result).place ≤ c.lesser-more.result * c.args.box_bytes)
 unfolding number_of
 placed c =
     let x = c.args in
     let d = x.parts.description in
     let from = c.loop-i.i * x.box_bytes in
-    let size = c.min-more.result * x.box_bytes in
+    let size = c.lesser-more.result * x.box_bytes in
     let row = take (from + size - from) (drop from x.bytes.now) in
     let short : length row ≤ size = rw length-take (omega arith) in
     let told = rw (← c.check_row-told.ensures) at (row_before d.kinds (sides_of d.dimensions) c.part-outer.result.now 15 row) in
@@ -99,7 +99,7 @@ placed c =
 fits : (c : After-check_row-told) → (
     c.loop-i.i * c.args.box_bytes + (told c.check_row-told.result).place < 2 ^ 64)
 fits c =
-    omega (arith, placed c, (turn (goal.at.After-check_row-told c).After-min-more).3)
+    omega (arith, placed c, (turn (goal.at.After-check_row-told c).After-lesser-more).3)
 
 -- what is told of it, in its place
 there : (c : After-map_err) → (
@@ -114,7 +114,7 @@ said : (c : After-map_err) → (
     let x = c.args in
     let u = x.cursor in
     told c.map_err.result
-    ≡ each (child_check x.parts.description u.fanout u.parents u.index x.bytes.now x.work.now) l.i c.min-more.result)
+    ≡ each (child_check x.parts.description u.fanout u.parents u.index x.bytes.now x.work.now) l.i c.lesser-more.result)
 unfolding number_of
 said m =
     let c = m in
@@ -123,8 +123,8 @@ said m =
     let u = x.cursor in
     let q = (u.index + l.i) / u.fanout in
     let here = l.invariant.5 c.loop-i-test.true in
-    let t = turn (goal.at.After-map_err c).After-min-more in
-    let run : Run x.parts.description x.bytes.now x.box_bytes 0 l.i c.min-more.result = record {
+    let t = turn (goal.at.After-map_err c).After-lesser-more in
+    let run : Run x.parts.description x.bytes.now x.box_bytes 0 l.i c.lesser-more.result = record {
       own = c.requires.run_of.width;
       some = some_bytes c.requires.run_of;
       there = omega (arith, t.3);
@@ -137,18 +137,18 @@ said m =
     (λ y low high. div-eq_of_lt-le {k = q} u.fanout {m = u.index + y} (omega (arith, l.invariant.2, here)) (omega (arith, t.2, here))))
 
 -- the boxes from i on, in two
-in_two : (c : After-min-more) → (let l = c.loop-i in
+in_two : (c : After-lesser-more) → (let l = c.loop-i in
     let x = c.args in
     let u = x.cursor in
     let g = child_check x.parts.description u.fanout u.parents u.index x.bytes.now x.work.now in
     each g 0 x.boxes
-    ≡ otherwise (each g l.i c.min-more.result) (each g (l.i + c.min-more.result) (x.boxes - (l.i + c.min-more.result))))
+    ≡ otherwise (each g l.i c.lesser-more.result) (each g (l.i + c.lesser-more.result) (x.boxes - (l.i + c.lesser-more.result))))
 in_two c =
     let l = c.loop-i in
     let x = c.args in
     let u = x.cursor in
     let g = child_check x.parts.description u.fanout u.parents u.index x.bytes.now x.work.now in
-    let more = c.min-more.result in
+    let more = c.lesser-more.result in
     let z : x.boxes - l.i ≡ more + (x.boxes - (l.i + more)) = omega (arith, turn c) in
     sym l.invariant.6 ∙ rw (z, each-add g l.i more (x.boxes - (l.i + more)))
 
@@ -159,40 +159,40 @@ returns-in_err-map_err c =
     let from = c.loop-i.i * x.box_bytes in
     let out = left _ _ c.from_residual.ensures.1 in
     let same : told c.from_residual.result ≡ moved from (told c.check_row-told.result) = out ∙ sym (ap told c.in_err-map_err.was) ∙ there t in (
-      out ∙ halts (said t) _ c.in_err-map_err.was ∙ sym (in_two (goal.at.returns-in_err-map_err c).After-min-more),
+      out ∙ halts (said t) _ c.in_err-map_err.was ∙ sym (in_two (goal.at.returns-in_err-map_err c).After-lesser-more),
       omega (
         arith,
         ap (λ (q : Refusal). q.place) same,
-        (turn (goal.at.returns-in_err-map_err c).After-min-more).3,
-        moved-place from (c.min-more.result * x.box_bytes) (told c.check_row-told.result) (placed (goal.at.returns-in_err-map_err c).After-check_row-told),
+        (turn (goal.at.returns-in_err-map_err c).After-lesser-more).3,
+        moved-place from (c.lesser-more.result * x.box_bytes) (told c.check_row-told.result) (placed (goal.at.returns-in_err-map_err c).After-check_row-told),
       ),
     )
 
-next_place : (c : After-min-more) → (let l = c.loop-i in
+next_place : (c : After-lesser-more) → (let l = c.loop-i in
     let x = c.args in
     let place = l.place + x.box_bytes in
-    (place ≤ x.cursor.parents + (x.cursor.index + (l.i + c.min-more.result)) * x.box_bytes) × (place ≤ most_work + most_tiles * most_box_bytes))
+    (place ≤ x.cursor.parents + (x.cursor.index + (l.i + c.lesser-more.result)) * x.box_bytes) × (place ≤ most_work + most_tiles * most_box_bytes))
 next_place c =
     let l = c.loop-i in
     let x = c.args in
-    let after = x.cursor.index + (l.i + c.min-more.result) in
+    let after = x.cursor.index + (l.i + c.lesser-more.result) in
     let t = turn c in
     let upto : l.place + x.box_bytes ≤ x.cursor.parents + after * x.box_bytes = omega (arith, l.invariant.3, mul-le-mul_right x.box_bytes t.0) in
-    (upto, omega (arith, upto, small (goal.at.After-min-more c).Start after (omega (arith, t.1))))
+    (upto, omega (arith, upto, small (goal.at.After-lesser-more c).Start after (omega (arith, t.1))))
 
 -- with more boxes to come, the row was taken whole: the next has the next parent
-next_row : (c : After-min-more) → (let l = c.loop-i in
+next_row : (c : After-lesser-more) → (let l = c.loop-i in
     let x = c.args in
     let u = x.cursor in
-    let after = u.index + (l.i + c.min-more.result) in
+    let after = u.index + (l.i + c.lesser-more.result) in
     let q = (u.index + l.i) / u.fanout in
-    l.i + c.min-more.result < x.boxes → (after ≡ (q + 1) * u.fanout) × (after / u.fanout ≡ q + 1))
+    l.i + c.lesser-more.result < x.boxes → (after ≡ (q + 1) * u.fanout) × (after / u.fanout ≡ q + 1))
 next_row c more =
     let l = c.loop-i in
     let u = c.args.cursor in
     let q = (u.index + l.i) / u.fanout in
     let here = l.invariant.5 c.loop-i-test.true in
-    let whole : u.index + (l.i + c.min-more.result) ≡ (q + 1) * u.fanout = omega (arith, here, c.min-more.ensures, more) in
+    let whole : u.index + (l.i + c.lesser-more.result) ≡ (q + 1) * u.fanout = omega (arith, here, c.lesser-more.ensures, more) in
     (whole, rw whole (mul-div_cancel (q + 1) c.requires.fanout_nonzero))
 
 pub loop-i-preserved : goal.loop-i-preserved
@@ -201,14 +201,14 @@ loop-i-preserved c =
     let x = c.args in
     let u = x.cursor in
     let q = (u.index + l.i) / u.fanout in
-    let t = turn (goal.at.loop-i-preserved c).After-min-more in (
+    let t = turn (goal.at.loop-i-preserved c).After-lesser-more in (
       t.1,
       omega (arith, c.requires.fanout_nonzero),
       omega arith,
-      (next_place (goal.at.loop-i-preserved c).After-min-more).0,
-      (λ more. rw (next_row (goal.at.loop-i-preserved c).After-min-more more).1 (omega (arith, l.invariant.4 c.loop-i-test.true))),
-      (λ more. let n = next_row (goal.at.loop-i-preserved c).After-min-more more in rw n.1 (omega (arith, n.0))),
-      sym (in_two (goal.at.loop-i-preserved c).After-min-more ∙ goes_on (said (goal.at.loop-i-preserved c).After-map_err) _ c.in_ok-map_err.was),
+      (next_place (goal.at.loop-i-preserved c).After-lesser-more).0,
+      (λ more. rw (next_row (goal.at.loop-i-preserved c).After-lesser-more more).1 (omega (arith, l.invariant.4 c.loop-i-test.true))),
+      (λ more. let n = next_row (goal.at.loop-i-preserved c).After-lesser-more more in rw n.1 (omega (arith, n.0))),
+      sym (in_two (goal.at.loop-i-preserved c).After-lesser-more ∙ goes_on (said (goal.at.loop-i-preserved c).After-map_err) _ c.in_ok-map_err.was),
     )
 
 pub returns : goal.returns
@@ -231,28 +231,28 @@ pub overflow_sub-row-2 : goal.overflow_sub-row-2
 overflow_sub-row-2 c = omega (arith, first-row (goal.at.overflow_sub-row-2 c).Start)
 
 pub overflow_mul-from : goal.overflow_mul-from
-overflow_mul-from c = omega (arith, turn (goal.at.overflow_mul-from c).After-min-more)
+overflow_mul-from c = omega (arith, turn (goal.at.overflow_mul-from c).After-lesser-more)
 
 pub overflow_mul-here : goal.overflow_mul-here
-overflow_mul-here c = omega (arith, turn (goal.at.overflow_mul-here c).After-min-more)
+overflow_mul-here c = omega (arith, turn (goal.at.overflow_mul-here c).After-lesser-more)
 
 pub overflow_add-here : goal.overflow_add-here
-overflow_add-here c = omega (arith, turn (goal.at.overflow_add-here c).After-min-more)
+overflow_add-here c = omega (arith, turn (goal.at.overflow_add-here c).After-lesser-more)
 
 pub slice_bounds-here-count : goal.slice_bounds-here-count
-slice_bounds-here-count c = omega (arith, turn (goal.at.slice_bounds-here-count c).After-min-more)
+slice_bounds-here-count c = omega (arith, turn (goal.at.slice_bounds-here-count c).After-lesser-more)
 
 pub slice_bounds-here-start : goal.slice_bounds-here-start
-slice_bounds-here-start c = omega (arith, turn (goal.at.slice_bounds-here-start c).After-min-more)
+slice_bounds-here-start c = omega (arith, turn (goal.at.slice_bounds-here-start c).After-lesser-more)
 
 pub slice_bounds-here-end : goal.slice_bounds-here-end
-slice_bounds-here-end c = omega (arith, turn (goal.at.slice_bounds-here-end c).After-min-more)
+slice_bounds-here-end c = omega (arith, turn (goal.at.slice_bounds-here-end c).After-lesser-more)
 
 pub overflow_add-i : goal.overflow_add-i
-overflow_add-i c = omega (arith, turn (goal.at.overflow_add-i c).After-min-more)
+overflow_add-i c = omega (arith, turn (goal.at.overflow_add-i c).After-lesser-more)
 
 pub overflow_add-place-in-loop-i : goal.overflow_add-place-in-loop-i
-overflow_add-place-in-loop-i c = omega (arith, (next_place (goal.at.overflow_add-place-in-loop-i c).After-min-more).1)
+overflow_add-place-in-loop-i c = omega (arith, (next_place (goal.at.overflow_add-place-in-loop-i c).After-lesser-more).1)
 
 pub loop-i-smaller : goal.loop-i-smaller
-loop-i-smaller c = omega (arith, turn (goal.at.loop-i-smaller c).After-min-more)
+loop-i-smaller c = omega (arith, turn (goal.at.loop-i-smaller c).After-lesser-more)

@@ -10,7 +10,7 @@ use Rattle.parts_state.specs.Code.State.{item_bytes}
 use Rattle.parts.proofs.Lists.{read_first}
 use Rattle.parts.proofs.Front.{is-tree, box-left}
 use Rattle.parts.proofs.Held.{fewer}
-use Rattle.parts.proofs.take_item.Goals.{After-min-boxes, Else-cursor-eq0, Then-cursor-eq0}
+use Rattle.parts.proofs.take_item.Goals.{After-lesser-boxes, Else-cursor-eq0, Then-cursor-eq0}
 use Rattle.parts.proofs.take_item.Goals as goal
 
 -- a number is there whole
@@ -61,21 +61,21 @@ returns-then-cursor-clause-took c = λ held d F footer stated body p g r fits.
     absurd (omega (arith, left, c.if-cursor.true))
 
 -- how many boxes are taken
-taken : (c : After-min-boxes) → (let x = c.args in let from = x.bytes.now in
-    let whole = c.min-boxes.result * x.box_bytes in
-    (whole ≤ length from) × (0 < c.min-boxes.result) × (c.min-boxes.result ≤ x.cursor.count - x.cursor.index)
+taken : (c : After-lesser-boxes) → (let x = c.args in let from = x.bytes.now in
+    let whole = c.lesser-boxes.result * x.box_bytes in
+    (whole ≤ length from) × (0 < c.lesser-boxes.result) × (c.lesser-boxes.result ≤ x.cursor.count - x.cursor.index)
     × (length (take whole from) ≡ whole) × (x.box_bytes ≤ whole))
 taken c =
     let x = c.args in
     let from = length x.bytes.now in
     let b = x.box_bytes in
-    let own = box-item (goal.at.After-min-boxes c).Else-cursor-eq0 in
-    let l = c.min-boxes.ensures in
+    let own = box-item (goal.at.After-lesser-boxes c).Else-cursor-eq0 in
+    let l = c.lesser-boxes.ensures in
     let left = c.if-cursor.false in
-    let up_to : c.min-boxes.result ≤ from / b = omega (arith, l) in
-    let inside : c.min-boxes.result * b ≤ from = omega (arith, mul-le-mul_right b up_to, div-mul-le_self from b) in
+    let up_to : c.lesser-boxes.result ≤ from / b = omega (arith, l) in
+    let inside : c.lesser-boxes.result * b ≤ from = omega (arith, mul-le-mul_right b up_to, div-mul-le_self from b) in
     let one : 1 ≤ from / b = (le-div_iff_mul-le {k = b} {x = 1} {y = from} own.1).1 (omega (arith, own.0, c.requires.whole)) in
-    let some : 0 < c.min-boxes.result = omega (arith, l, one, left) in (
+    let some : 0 < c.lesser-boxes.result = omega (arith, l, one, left) in (
       inside,
       some,
       omega (arith, l),
@@ -85,7 +85,7 @@ taken c =
 
 pub take_boxes-requires : goal.take_boxes-requires
 take_boxes-requires c =
-    let t = taken (goal.at.take_boxes-requires c).After-min-boxes in record {
+    let t = taken (goal.at.take_boxes-requires c).After-lesser-boxes in record {
       run_of = record {
         width = c.requires.box_bytes_value;
         range = rw t.3 (fewer c.requires.in_range _ t.0);
@@ -101,8 +101,8 @@ returns-clause-room c = c.take_boxes.ensures.room
 
 pub returns-clause-took : goal.returns-clause-took
 returns-clause-took c = λ held d F footer stated body p g r fits.
-    let m = c.min-boxes.result * c.args.box_bytes in
-    let o = taken (goal.at.returns-clause-took c).After-min-boxes in
+    let m = c.lesser-boxes.result * c.args.box_bytes in
+    let o = taken (goal.at.returns-clause-took c).After-lesser-boxes in
     let own = box-item (goal.at.returns-clause-took c).Else-cursor-eq0 in
     record {
       taken = m;
@@ -117,7 +117,7 @@ pub nonzero_div-bytes : goal.nonzero_div-bytes
 nonzero_div-bytes c = omega (arith, (box-item (goal.at.nonzero_div-bytes c).Else-cursor-eq0).1)
 
 pub overflow_mul-whole : goal.overflow_mul-whole
-overflow_mul-whole c = omega (arith, taken (goal.at.overflow_mul-whole c).After-min-boxes)
+overflow_mul-whole c = omega (arith, taken (goal.at.overflow_mul-whole c).After-lesser-boxes)
 
 pub slice_bounds-take_boxes-end : goal.slice_bounds-take_boxes-end
-slice_bounds-take_boxes-end c = sym (taken (goal.at.slice_bounds-take_boxes-end c).After-min-boxes).3
+slice_bounds-take_boxes-end c = sym (taken (goal.at.slice_bounds-take_boxes-end c).After-lesser-boxes).3

@@ -1,7 +1,7 @@
--- `tile_metadata::all_between` meets its contract. The invariant: where the test held so far, it holds of each tile from the
+-- `tile_values::all_between` meets its contract. The invariant: where the test held so far, it holds of each tile from the
 -- first on and before i, and where it didn't, of one of them not. Assumes nothing.
 use Rattle.std.proofs.Common.{◌≡◌, ◌≤◌, ◌<◌, ℕ, true, false}
-use Rattle.tile_metadata.proofs.all_between.Given as goal
+use Rattle.tile_values.proofs.all_between.Given as goal
 
 abbrev pub invariant-loop-i : goal.invariant-loop-i
 invariant-loop-i g l =

@@ -1,7 +1,7 @@
--- `tile_metadata::UsizeTiles::all_hold_by_eights` meets its contract. The invariant: the test holds of each tile of the blocks before.
+-- `var_values::all_hold_by_eights` meets its contract. The invariant: the test holds of each tile of the blocks before.
 -- Assumes nothing.
 use Rattle.std.proofs.Common.{◌*◌, ◌<◌, ℕ, true}
-use Rattle.tile_metadata.proofs.UsizeTiles.all_hold_by_eights.Given as goal
+use Rattle.var_values.proofs.all_hold_by_eights.Given as goal
 
 abbrev pub invariant-loop-block : goal.invariant-loop-block
 invariant-loop-block g l = (j : ℕ) → j < 8 * l.block → goal.F-post g l.test j true
