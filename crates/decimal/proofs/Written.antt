@@ -84,6 +84,12 @@ length_more n h = rw (decimal-more n h, length-append)
 pub some-digit : (n : ℕ) → 0 < length (decimal n)
 some-digit = by-tenths (λ n. 0 < length (decimal n)) (λ n h. omega (arith, length-small n h)) (λ n h i. omega (arith, length_more n h))
 
+pub one-digit : (n : ℕ) → length (decimal n) ≡ 1 → n < 10
+one-digit n h = elim (under-or-not n 10) [ inl l ↦ l | inr l ↦ absurd (omega (arith, length_more n l, some-digit (n / 10))) ]
+
+pub more-digits : (n : ℕ) → 1 < length (decimal n) → 10 ≤ n
+more-digits n h = elim (under-or-not n 10) [ inl l ↦ absurd (omega (arith, length-small n l)) | inr l ↦ l ]
+
 pub digits-enough : (k n : ℕ) → n < 10 ^ suc k → length (decimal n) ≤ suc k
 digits-enough zero n h = omega (arith, length-small n h)
 digits-enough (suc k) n h =

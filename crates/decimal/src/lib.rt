@@ -121,10 +121,11 @@ fn fill(n: u64, out: &mut [u8], at: usize, count: usize)
     ensures { out.new ≡ sets out.old at (decimal n) }
 {
     let mut rest = n;
-    for place in (at..at + count).rev() {
+    for place in (at + 1..at + count).rev() {
         out[place] = digit(rest % 10);
         rest /= 10;
     }
+    out[at] = digit(rest);
 }
 
 // The byte of a digit.

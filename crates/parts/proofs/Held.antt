@@ -155,6 +155,15 @@ module _ {held : List ℕ} {kept : ℕ} {bytes : List ℕ} {item have : ℕ} {af
     pub from-item : 0 < have → length from ≡ item
     from-item l = rw (from-held l, length-take) (omega (arith, h.room))
 
+    pub whole-least : item ≤ length from
+    whole-least = go (dec_le 1 have)
+      where
+        go : Dec (1 ≤ have) → item ≤ length from
+        go (yes l) = omega (arith, from-item l)
+        go (no l) =
+            let z : have ≡ 0 = omega arith in
+            rw (from_block z) (h.none z).1
+
 module _ {d : Description} {F : ℕ} {footer : List ℕ} {stated : ℕ} {body work : List ℕ} {s : Parts} {p : ℕ}
     (g : Going d F footer stated body work s p) {bytes : List ℕ} (r : Reads body p bytes) (some : 0 < length bytes)
     (fits : p + length bytes ≤ stated) {item have : ℕ} {held : List ℕ} (own : item ≡ item_bytes (bytes_of_box d) s.cursor.counted)

@@ -2,7 +2,7 @@
 // what they came to.
 #![tactic(auto)]
 
-ghost use Rattle.std.specs.Prelude.{◌≡◌, ℕ, true, Some, ◌-◌, ◌+◌, ◌≤◌, ◌<◌, length, take, drop};
+ghost use Rattle.std.specs.Prelude.{◌≡◌, ℕ, true, Some, ◌-◌, ◌+◌, ◌≤◌, ◌<◌, eqb, cond, length, take, drop};
 ghost use Rattle.answers.specs.Refusals.{refusal};
 ghost use Rattle.answers.specs.Checks.{otherwise, each};
 ghost use Rattle.answers.specs.Told.{number_of, told};
@@ -267,7 +267,8 @@ fn item_bytes(box_bytes: usize, counted: usize) -> usize
 }
 
 // Takes at least one byte: as much as is there of what comes next, and of boxes as many of the level as are there. What
-// is held in part, or there in part, is taken from the held bytes once it is whole.
+// is held in part, or there in part, is taken from the held bytes once it is whole. One call takes either, so that it is
+// compiled in place: a call of its own would copy `parts` each time.
 fn step(
     parts: Parts,
     box_bytes: usize,
@@ -286,11 +287,13 @@ fn step(
         (with_cursor parts held.new result) work.new }
 {
     let item = item_bytes(box_bytes, cursor.counted);
-    let next = keep(cursor, 0);
-    match gather(held, cursor.kept, bytes, item) {
-        None => take_item(parts, box_bytes, next, work, bytes),
-        Some(have) if have < item => keep(cursor, have),
-        Some(_) => take_item(parts, box_bytes, next, work, &held[..item]),
+    let have = gather(held, cursor.kept, bytes, item);
+    match have {
+        Some(kept) if kept < item => keep(cursor, kept),
+        _ => {
+            let from = whole_of(held, bytes, have, item);
+            take_item(parts, box_bytes, keep(cursor, 0), work, from)
+        }
     }
 }
 
@@ -336,6 +339,18 @@ fn gather(held: &mut [u8], kept: usize, bytes: &[u8], item: usize) -> Option<usi
     let more = answers::lesser(item - kept, bytes.len());
     order::copy(held, kept, &bytes[..more]);
     Some(kept + more)
+}
+
+// The bytes from which what comes next is taken: those that are held of it, or the block's.
+fn whole_of<'a>(held: &'a [u8], bytes: &'a [u8], have: Option<usize>, item: usize) -> &'a [u8]
+    requires room { item ≤ length held.now }
+    requires some { (k : ℕ) → have ≡ Some k → 0 < k }
+    ensures { result.now ≡ cond (eqb (held_of have) 0) bytes.now (take item held.now) }
+{
+    match have {
+        None => bytes,
+        Some(_) => &held[..item],
+    }
 }
 
 // The fanout and L, or a count.

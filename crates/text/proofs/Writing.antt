@@ -117,6 +117,11 @@ module _ (from : ℕ) where
       let z : from - at ≡ 0 = omega arith in
       rw z
 
+  -- past the buffer's end
+  pub seen-past : (out : Bytes) (at : ℕ) (t : Bytes) → length out ≤ at - from → out ≡ seen from out at t
+  unfolding seen
+  seen-past out at t h = sym (sets-past out (at - from) (drop (from - at) t) h)
+
 -- ---- one text after the other
 pub wrote-append : {from : ℕ} {before middle after xs ys : Bytes} {at next end : ℕ}
     → Wrote from before at xs middle next → Wrote from middle next ys after end → Wrote from before at (xs ++ ys) after end

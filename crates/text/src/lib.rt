@@ -64,11 +64,13 @@ pub fn write_field(n: u64, end: u8, from: usize, out: &mut [u8], at: usize) -> u
     ensures { (result ≡ length (field n end))
         × (out.new ≡ seen from out.old at (field n end)) }
 {
-    if from <= at {
-        let place = at - from;
-        if 21 <= out.len().saturating_sub(place) {
-            return put_field(n, end, out, place);
-        }
+    let place = at.saturating_sub(from);
+    // nothing of it is stored
+    if out.len() <= place {
+        return decimal::digits(n) + 1;
+    }
+    if from <= at && 21 <= out.len() - place {
+        return put_field(n, end, out, place);
     }
     let mut bytes = [0u8; 21];
     let count = put_field(n, end, &mut bytes, 0);
