@@ -57,7 +57,8 @@ pub fn check_shape(description: Description, tiles: u64, body: &[u8]) -> Shaped
     let box_bytes = description.box_bytes();
     let fanout = order::u32_at(body, 0) as usize;
     let shape = tree::shape_of(tiles as usize, fanout, box_bytes);
-    let told = Refusal::from(check_by(tiles, body, fanout, shape));
+    let table = shape.table;
+    let told = Refusal::from(check_by(tiles, body, fanout, shape.levels, shape.bytes, &table));
     Shaped {
         number: told.number,
         place: told.place,
@@ -66,17 +67,24 @@ pub fn check_shape(description: Description, tiles: u64, body: &[u8]) -> Shaped
     }
 }
 
-// The same by the shape.
-fn check_by(tiles: u64, body: &[u8], fanout: usize, shape: Shape) -> Result<(), Refused>
-    requires { (j : ℕ) → j < shape.levels → 8 ≤ place_in shape.table j }
+// The same by the shape's numbers and its table. Each check is made, whatever one before it says: with an end at the
+// first refusal the compiler leaves two more copies of the table standing in a query.
+fn check_by(
+    tiles: u64,
+    body: &[u8],
+    fanout: usize,
+    levels: usize,
+    bytes: usize,
+    table: &[usize; 50],
+) -> Result<(), Refused>
+    requires { (j : ℕ) → j < levels → 8 ≤ place_in table.now j }
     ensures { told result ≡ otherwise (otherwise (tiles_refusal tiles)
         (front_refusal (length body.now) fanout))
-        (otherwise (size_refusal shape.levels shape.bytes (length body.now) (levels_of body.now))
-        (table_refusal body.now shape.table shape.levels)) }
+        (otherwise (size_refusal levels bytes (length body.now) (levels_of body.now))
+        (table_refusal body.now table.now levels)) }
 {
-    check_front(tiles, body.len(), fanout)?;
-    check_size(body, shape.levels, shape.bytes)?;
-    check_counts(body, &shape.table, shape.levels)
+    let shown = check_size(body, levels, bytes).and(check_counts(body, table, levels));
+    check_front(tiles, body.len(), fanout).and(shown)
 }
 
 // 10; fewer than 8 bytes, 2; 13.

@@ -1,18 +1,20 @@
 -- `rtree::check_by` meets its contract: its checks in turn. Assumes nothing.
-use mathlib.Core.Path.{sym, ◌∙◌}
-use Rattle.answers.proofs.Told.{goes_on, halts}
-use Rattle.rtree.proofs.Left.{left}
+use Rattle.std.proofs.Common.{◌≡◌, Result, Ok, Err, refl, sym}
+use Rattle.std.specs.Result.{result_and}
+use Rattle.answers.specs.declared.Refused.{Refused}
+use Rattle.answers.specs.Refusals.{none}
+use Rattle.answers.specs.Checks.{otherwise}
+use Rattle.answers.specs.Told.{said, told}
+use Rattle.answers.proofs.Checks.{go_on, halt}
+use Rattle.answers.proofs.Told.{refuses}
 use Rattle.rtree.proofs.check_by.Goals as goal
 
-pub returns-in_err-check_front : goal.returns-in_err-check_front
-returns-in_err-check_front c = left _ _ c.from_residual.ensures.1 ∙ halts c.check_front.ensures _ c.in_err-check_front.was
-
-pub returns-in_err-check_size : goal.returns-in_err-check_size
-returns-in_err-check_size c =
-    left _ _ c.from_residual-in_err-check_size.ensures.1 ∙ halts c.check_size.ensures _ c.in_err-check_size.was
-    ∙ sym (goes_on c.check_front.ensures _ c.in_ok-check_front.was)
+together : (r s : Result Unit Refused) → told (result_and r s) ≡ otherwise (told r) (told s)
+unfolding told
+together (Ok u) s = sym (go_on none (told s) refl)
+together (Err e) s = sym (halt (said e) (told s) (refuses e))
 
 pub returns : goal.returns
 returns c =
-    c.check_counts.ensures
-    ∙ sym (goes_on c.check_front.ensures _ c.in_ok-check_front.was ∙ goes_on c.check_size.ensures _ c.in_ok-check_size.was)
+    rw (c.and.ensures, c.and-shown.ensures, together c.check_front.result (result_and c.check_size.result c.check_counts.result), together c.check_size.result c.check_counts.result, c.check_front.ensures, c.check_size.ensures, c.check_counts.ensures)
+    refl
