@@ -8,6 +8,8 @@ ghost use Rattle.commits.specs.Committed.{committed_answer, committed_lines};
 ghost use Rattle.commits.specs.Alike.{AlikeListings};
 ghost use Rattle.c_commits.specs.Places.{committed_places};
 
+use commits::Committed;
+
 // Which folders of a listing are committed and no later than `time`?
 #[unsafe(no_mangle)]
 pub extern "C" fn tussockbell_committed(
@@ -20,6 +22,6 @@ pub extern "C" fn tussockbell_committed(
     ensures buffer { out.new ≡ laid (committed_lines listing.now time) out.old }
     ensures alike { AlikeListings listing.now time (get_or answer.new 2 0) out.new }
 {
-    let r = commits::find_committed(listing, time, out);
+    let r = Committed::from(commits::find_committed(listing, time, out));
     *answer = [r.number, r.place, r.found];
 }

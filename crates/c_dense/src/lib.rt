@@ -10,7 +10,7 @@ ghost use Rattle.c_dense.specs.Lent.{order_of, extents_of, describe_grid, lent_r
 ghost use Rattle.c_dense.specs.Lent.{refusal_places, answer_places};
 
 use answers::Refusal;
-use dense::Order;
+use dense::{DenseAnswer, Order};
 use description::Description;
 
 // Which tiles of a dense array does a window touch?
@@ -39,7 +39,7 @@ pub extern "C" fn tussockbell_dense_query(
     let domain = c_arguments::window_of(d, domain_kinds, domain_ends);
     let w = c_arguments::window_of(d, window_kinds, window_ends);
     let sizes = extents_of(extents);
-    let r = dense::query(d, domain, sizes, order_of(order), w, out);
+    let r = DenseAnswer::from(dense::query(d, domain, sizes, order_of(order), w, out));
     *answer = [r.number, r.place, r.found];
 }
 

@@ -3,6 +3,7 @@
 use mathlib.Core.Path.{◌≡◌, ap, ◌∙◌}
 use mathlib.Core.Bool.{false}
 use mathlib.Core.List.{List}
+use Rattle.std.specs.Prelude.{Result, Ok, Err, IsErrAnd}
 use Prim.Native.Nat.{ℕ}
 use native.Mathlib.Omega.{arith}
 use lib.Dec.{eqb}
@@ -17,7 +18,7 @@ use Rattle.answers.proofs.Told.{refuses}
 use Rattle.answers.specs.Laid.{laid}
 use Rattle.text.specs.Text.{Bytes, lines}
 use Rattle.commits.specs.declared.Committed.{Committed}
-use Rattle.commits.specs.Committed.{lines_listed, listing_refusal, committed_lines, committed_answer}
+use Rattle.commits.specs.Committed.{lines_listed, listing_refusal, committed_lines, committed_answer, told_committed}
 use Rattle.commits.specs.Alike.{AlikeListings}
 use Rattle.commits.specs.declared.Row.{Row}
 use Rattle.commits.specs.Code.Index.{no_row, last_in, Index}
@@ -43,15 +44,16 @@ module _ (t : Bytes) (time : ℕ) (out : List ℕ) where
   answers : {r : Committed} {after : List ℕ} → r ≡ committed_answer t time → after ≡ laid (committed_lines t time) out → Answers r after
   answers e f = (e, (f, same-names-of t time out e f))
 
-  pub refused : (e : Refused) {number : ℕ} → said e ≡ listing_refusal (lines t) → number ≡ (said e).number
-      → Answers (record { number = number; place = e.place; found = 0 }) out
-  unfolding committed_answer committed_lines
-  refused e is n =
+  pub refused : (r : Result ℕ Refused) (e : Refused) → IsErrAnd r (λ y. y ≡ e) → said e ≡ listing_refusal (lines t)
+      → Answers (told_committed r) out
+  unfolding committed_answer committed_lines told_committed
+  refused (Ok n) e h is = absurd h
+  refused (Err y) e h is =
       let z : eqb (listing_refusal (lines t)).number 0 ≡ false = ne_eqb (listing_refusal (lines t)).number 0 (λ q. refuses e (ap (λ (r : Refusal). r.number) is ∙ q)) in
-      answers (rw (z, ← is, n)) (rw (z, take-nil (length out)))
+      answers (rw (z, ← is, h)) (rw (z, take-nil (length out)))
 
   pub accepted : listing_refusal (lines t) ≡ none → (found : ℕ) (after : List ℕ) → found ≡ length (lines_listed time (lines t))
       → after ≡ laid (lines_listed time (lines t)) out
-      → Answers (record { number = 0; place = 0; found = found }) after
-  unfolding committed_answer committed_lines
+      → Answers (told_committed (Ok found)) after
+  unfolding committed_answer committed_lines told_committed
   accepted z found after f a = answers (rw (z, f)) (rw (z) a)

@@ -1,9 +1,11 @@
 -- Which listings are accepted, which folders count, and which lines are found?
 -- Assumes nothing.
-use Rattle.std.specs.Prelude.{ℕ, suc, ◌≡◌, Bool, false, not, cond, ◌&&◌, ◌||◌, List, [], ◌∷◌, leb, eqb, length, get_or, take}
+use Rattle.std.specs.Prelude.{ℕ, suc, ◌≡◌, Result, Ok, Err, Bool, false, not, cond, ◌&&◌, ◌||◌, List, [], ◌∷◌, leb, eqb, length, get_or, take}
 use Rattle.answers.specs.declared.Refusal.{Refusal}
+use Rattle.answers.specs.declared.Refused.{Refused}
 use Rattle.answers.specs.Refusals.{bad_line, repeated}
 use Rattle.answers.specs.Checks.{check, first, each}
+use Rattle.answers.specs.Told.{said}
 use Rattle.text.specs.Text.{Bytes, lines, same}
 use Rattle.commits.specs.declared.Committed.{Committed}
 use Rattle.commits.specs.Records.{folder, wrt, con, ign, is_record, kind_of, name_of, time_of}
@@ -71,3 +73,8 @@ committed_answer t time = record {
   place = (listing_refusal (lines t)).place;
   found = length (committed_lines t time);
 }
+
+-- what code tells: how many are found, or what the error says
+unfoldable pub told_committed : Result ℕ Refused → Committed
+told_committed (Ok found) = record { number = 0; place = 0; found = found }
+told_committed (Err e) = record { number = (said e).number; place = (said e).place; found = 0 }

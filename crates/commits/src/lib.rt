@@ -7,7 +7,7 @@ ghost use Rattle.answers.specs.Told.{said};
 ghost use Rattle.text.specs.Text.{lines};
 ghost use Rattle.commits.specs.Records.{kind_number, is_uuid_byte, is_uuid, is_record};
 ghost use Rattle.commits.specs.Committed.{line_in, bears, names, listed, lines_listed, committed_lines};
-ghost use Rattle.commits.specs.Committed.{listing_refusal, committed_answer};
+ghost use Rattle.commits.specs.Committed.{listing_refusal, committed_answer, told_committed};
 ghost use Rattle.commits.specs.Alike.{AlikeListings};
 ghost use Rattle.commits.specs.Code.Index.{kind_code, number_read, name_read, ReadRecord, chain_of, last_in};
 ghost use Rattle.commits.specs.Code.Index.{Table, Chains, Index, ReadListing};
@@ -37,31 +37,40 @@ pub struct Committed {
     pub found: u64,
 }
 
+// As C and the definitions have it.
+impl From<Result<u64, Refused>> for Committed {
+    ghost from_gives = { λ answer c. c ≡ told_committed answer };
+
+    #[tactic(auto, unfolding(crate::specs::Committed::told_committed))]
+    fn from(answer: Result<u64, Refused>) -> Committed {
+        match answer {
+            Ok(found) => Committed {
+                number: 0,
+                place: 0,
+                found,
+            },
+            Err(e) => Committed {
+                number: e.reason.number(),
+                place: e.place,
+                found: 0,
+            },
+        }
+    }
+}
+
 // The line numbers, from 0, of the folders that count and are no later than `time`; the buffer's first places hold the
-// first of them, as many as fit.
-pub fn find_committed(listing: &[u8], time: u64, out: &mut [u32]) -> Committed
-    ensures answer { result ≡ committed_answer listing.now time }
+// first of them, as many as fit. The answer is how many there are.
+pub fn find_committed(listing: &[u8], time: u64, out: &mut [u32]) -> Result<u64, Refused>
+    ensures answer { told_committed result ≡ committed_answer listing.now time }
     ensures buffer { out.new ≡ laid (committed_lines listing.now time) out.old }
-    ensures alike { AlikeListings listing.now time result.found out.new }
+    ensures alike { AlikeListings listing.now time (told_committed result).found out.new }
 {
     let mut rows = [NO_ROW; 1024];
     let mut next = [0usize; 1024];
     let mut heads = [0usize; 1024];
-    match index(listing, &mut rows, &mut next, &mut heads) {
-        Err(refused) => Committed {
-            number: refused.reason.number(),
-            place: refused.place,
-            found: 0,
-        },
-        Ok(count) => {
-            let found = write(listing, time, count, &rows, &next, &heads, out);
-            Committed {
-                number: 0,
-                place: 0,
-                found: found as u64,
-            }
-        }
-    }
+    let count = index(listing, &mut rows, &mut next, &mut heads)?;
+    let found = write(listing, time, count, &rows, &next, &heads, out);
+    Ok(found as u64)
 }
 
 // A line as it is kept: where its name starts and ends, its kind, t2, and its chain.

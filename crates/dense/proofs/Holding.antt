@@ -5,7 +5,8 @@
 use mathlib.Core.Path.{◌≡◌, refl, sym, ap, ◌∙◌}
 use mathlib.Core.Logic.{◌⊎◌, inl, inr}
 use mathlib.Core.List.{List, [], ◌∷◌, ◌++◌, append-nil}
-use Rattle.std.proofs.Common.{Result, Err}
+use Rattle.std.proofs.Common.{Result, Ok, Err}
+use Rattle.std.specs.Prelude.{IsErrAnd}
 use Prim.Native.Nat.{ℕ, zero, suc, ◌+◌, ◌-◌, ◌*◌, ◌≤◌, ◌<◌}
 use native.Mathlib.Nat.{eq-or-lt_of_le, mul_assoc, mul_comm, one-mul, mul-one, mul-le-mul, le-mul_of_pos_right, zero-add}
 use native.Mathlib.Omega.{arith}
@@ -14,13 +15,14 @@ use lib.Seq.{sets, take-nil}
 use borrow.Author.Tests.{lt-ltb, eq-eqb, ne_eqb}
 use Rattle.answers.specs.Runs.{over}
 use Rattle.answers.specs.declared.Refused.{Refused}
-use Rattle.answers.specs.Told.{told, number_of}
+use Rattle.answers.specs.declared.Refusal.{Refusal}
+use Rattle.answers.specs.Told.{said}
 use Rattle.answers.specs.Laid.{laid}
 use Rattle.answers.proofs.Runs.{Each, over-ext, over-snoc}
 use Rattle.answers.proofs.Laid.{sets-whole}
 use Rattle.answers.proofs.Filled.{filled_at}
 use Rattle.answers.proofs.Checks.{clear}
-use Rattle.answers.proofs.Told.{told-err, refuses}
+use Rattle.answers.proofs.Told.{refuses}
 use Rattle.description.specs.declared.Description.{Description}
 use Rattle.description.specs.Limits.{most_tiles}
 use Rattle.description.specs.Description.{sides_of}
@@ -32,7 +34,7 @@ use Rattle.dense.specs.declared.DenseAnswer.{DenseAnswer}
 use Rattle.dense.specs.declared.Order.{Order}
 use Rattle.dense.specs.declared.Order.TheVariants.{RowMajor, ColumnMajor}
 use Rattle.dense.specs.Grid.{product}
-use Rattle.dense.specs.Dense.{dimension_of, tiles_in, grid_refusal, dense_refusal, touched, dense_answer, dense_buffer}
+use Rattle.dense.specs.Dense.{dimension_of, tiles_in, grid_refusal, dense_refusal, told_found, touched, dense_answer, dense_buffer}
 use Rattle.dense.specs.Code.Spans.{capped, Splits, axis_at, no_axis, axes_of, numbers, tiles_at, first_at, span_at, numbers_of, Capped, Held, Filled}
 use Rattle.dense.proofs.Accepting.{grid-passed, splits, no_more}
 use Rattle.dense.proofs.Told.{told-tiles}
@@ -212,16 +214,23 @@ module _ (d : Description) (domain : Window) (extents : List ℕ) (w : Window) (
   -- the answer of one that isn't refused
   pub answered : (found : ℕ) (before after : List ℕ) → found ≡ length (touched d domain extents w order)
       → after ≡ laid (touched d domain extents w order) before
-      → (◌≡◌ {A = DenseAnswer} (record { number = 0; place = 0; found = found }) (dense_answer d domain extents w order))
+      → (told_found (Ok found) ≡ dense_answer d domain extents w order)
       × (after ≡ dense_buffer d domain extents w order before)
-  unfolding dense_answer dense_buffer
+  unfolding told_found dense_answer dense_buffer
   answered found before after p q = rw (eq-eqb (dense_refusal d domain extents w).number 0 passed, p, q) (refl, refl)
 
--- and of one that is
-pub refused : (d : Description) (domain : Window) (extents : List ℕ) (w : Window) (order : Order) {r : Result Unit Refused} {e : Refused}
-    → told r ≡ dense_refusal d domain extents w → r ≡ Err e → {number : ℕ} → number ≡ number_of e.reason → (out : List ℕ)
-    → (◌≡◌ {A = DenseAnswer} (record { number = number; place = e.place; found = 0 }) (dense_answer d domain extents w order))
+-- and of one that is, which the exit of a `?` tells
+refused-by : (d : Description) (domain : Window) (extents : List ℕ) (w : Window) (order : Order) (x : Refusal)
+    → x ≡ dense_refusal d domain extents w → (x.number ≡ 0 → ⊥) → (out : List ℕ)
+    → (◌≡◌ {A = DenseAnswer} (record { number = x.number; place = x.place; found = 0 }) (dense_answer d domain extents w order))
     × (out ≡ dense_buffer d domain extents w order out)
-unfolding told dense_answer dense_buffer
-refused d domain extents w order {e = e} says is n out =
-    rw (n, ← (told-err says is), ne_eqb (number_of e.reason) 0 (refuses e)) (refl, refl)
+unfolding dense_answer dense_buffer
+refused-by d domain extents w order x is some out =
+    rw (← is, ne_eqb x.number 0 some) (refl, refl)
+
+pub refused : (d : Description) (domain : Window) (extents : List ℕ) (w : Window) (order : Order) (r : Result ℕ Refused) (e : Refused)
+    → IsErrAnd r (λ y. y ≡ e) → said e ≡ dense_refusal d domain extents w → (out : List ℕ)
+    → (told_found r ≡ dense_answer d domain extents w order) × (out ≡ dense_buffer d domain extents w order out)
+unfolding told_found
+refused d domain extents w order (Ok n) e h is out = absurd h
+refused d domain extents w order (Err y) e h is out = refused-by d domain extents w order (said y) (rw h is) (refuses y) out

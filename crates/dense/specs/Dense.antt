@@ -1,10 +1,12 @@
 -- A window on a dense array: the checks in their order, the tiles along each dimension, and the answer.
 -- Assumes nothing.
-use Rattle.std.specs.Prelude.{ℕ, ◌+◌, ◌-◌, ◌*◌, ◌/◌, ◌%◌, Bool, not, ◌&&◌, ◌||◌, cond, List, [], ◌∷◌, leb, ltb, eqb, length, get_or}
+use Rattle.std.specs.Prelude.{ℕ, Result, Ok, Err, ◌+◌, ◌-◌, ◌*◌, ◌/◌, ◌%◌, Bool, not, ◌&&◌, ◌||◌, cond, List, [], ◌∷◌, leb, ltb, eqb, length, get_or}
 use Rattle.answers.specs.Refusals as refusals
 use Rattle.answers.specs.Checks.{check, first, each}
 use Rattle.answers.specs.Laid.{laid}
 use Rattle.answers.specs.declared.Refusal.{Refusal}
+use Rattle.answers.specs.declared.Refused.{Refused}
+use Rattle.answers.specs.Told.{said}
 use Rattle.description.specs.declared.Description.{Description}
 use Rattle.description.specs.Limits.{most_tiles}
 use Rattle.description.specs.Kinds.{key, is_float}
@@ -49,6 +51,11 @@ module _ (r : Range) (e : ℕ) where
   -- they meet a window's range
   unfoldable pub along_meets : Range → ℕ → Bool
   along_meets w c = leb (first_cell c) (high_key w) && leb (low_key w) (last_cell c)
+
+-- what code tells: the number found, or what the error says
+unfoldable pub told_found : Result ℕ Refused → DenseAnswer
+told_found (Ok found) = record { number = 0; place = 0; found = found }
+told_found (Err e) = record { number = (said e).number; place = (said e).place; found = 0 }
 
 -- Which of m dimensions is axis k, counted from the slowest? The order of the tiles decides this and nothing else.
 abbrev pub dimension_of : Order → ℕ → ℕ → ℕ

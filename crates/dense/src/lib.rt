@@ -10,7 +10,7 @@ ghost use Rattle.description.specs.Limits.{most_tiles};
 ghost use Rattle.boxes.specs.Boxes.{range_in};
 ghost use Rattle.dense.specs.Grid.{product};
 ghost use Rattle.dense.specs.Dense.{low_key, high_key, tiles_along, split_refusal, dimension_of};
-ghost use Rattle.dense.specs.Dense.{grid_refusal, dense_refusal, dense_answer, dense_buffer};
+ghost use Rattle.dense.specs.Dense.{grid_refusal, dense_refusal, told_found, dense_answer, dense_buffer};
 ghost use Rattle.dense.specs.Code.Spans.{capped, Splits, axis_of, axes_of, span_at, Capped, numbers_of, Held, Filled};
 ghost use Rattle.dense.specs.Code.Spans.{row_of};
 
@@ -26,11 +26,32 @@ pub enum Order {
     ColumnMajor,
 }
 
+// What a query answers, as C and the definitions have it: a refusal, or how many tiles are touched.
 #[derive(Clone, Copy)]
 pub struct DenseAnswer {
     pub number: u64,
     pub place: u64,
     pub found: u64,
+}
+
+impl From<Result<u64, Refused>> for DenseAnswer {
+    ghost from_gives = { λ answer r. r ≡ told_found answer };
+
+    #[tactic(auto, unfolding(crate::specs::Dense::told_found))]
+    fn from(answer: Result<u64, Refused>) -> DenseAnswer {
+        match answer {
+            Ok(found) => DenseAnswer {
+                number: 0,
+                place: 0,
+                found,
+            },
+            Err(e) => DenseAnswer {
+                number: e.reason.number(),
+                place: e.place,
+                found: 0,
+            },
+        }
+    }
 }
 
 // The keys of a range's ends.
@@ -104,7 +125,7 @@ impl Axis {
     }
 }
 
-// The buffer's first places hold the first tiles touched, as many as fit.
+// How many tiles are touched; the buffer's first places hold the first of them, as many as fit.
 pub fn query(
     description: Description,
     domain: Window,
@@ -112,31 +133,19 @@ pub fn query(
     order: Order,
     window: Window,
     out: &mut [u32],
-) -> DenseAnswer
-    ensures answer { result ≡ dense_answer description domain extents window order }
+) -> Result<u64, Refused>
+    ensures answer { told_found result ≡ dense_answer description domain extents window order }
     ensures buffer { out.new ≡ dense_buffer description domain extents window order out.old }
 {
-    match check_query(description, domain, extents, window) {
-        Err(e) => DenseAnswer {
-            number: e.reason.number(),
-            place: e.place,
-            found: 0,
-        },
-        Ok(()) => {
-            let n = description::sides_of(description.dimensions);
-            let axes = axes_of(n, domain.sides, extents, order, window.sides);
-            let found = found_of(axes, n);
-            // Else a slow axis would be walked through for nothing.
-            if found != 0 {
-                fill(axes, 0, n - 1, 0, 0, out);
-            }
-            DenseAnswer {
-                number: 0,
-                place: 0,
-                found,
-            }
-        }
+    check_query(description, domain, extents, window)?;
+    let n = description::sides_of(description.dimensions);
+    let axes = axes_of(n, domain.sides, extents, order, window.sides);
+    let found = found_of(axes, n);
+    // Else a slow axis would be walked through for nothing.
+    if found != 0 {
+        fill(axes, 0, n - 1, 0, 0, out);
     }
+    Ok(found)
 }
 
 // The grid, then the window.

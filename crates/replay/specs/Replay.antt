@@ -1,8 +1,10 @@
 -- What does a replay write, and what does it answer?
 -- Assumes nothing.
-use Rattle.std.specs.Prelude.{ℕ, ◌<◌, ◌≡◌, Bool, cond, ◌&&◌, List, [], ◌∷◌, ◌++◌, ltb, eqb, length, drop, unwrap_or}
+use Rattle.std.specs.Prelude.{ℕ, ◌<◌, ◌≡◌, Result, Ok, Err, Bool, cond, ◌&&◌, List, [], ◌∷◌, ◌++◌, ltb, eqb, length, drop, unwrap_or}
+use Rattle.answers.specs.declared.Refused.{Refused}
 use Rattle.answers.specs.Refusals.{room}
 use Rattle.answers.specs.Runs.{join}
+use Rattle.answers.specs.Told.{said}
 use Rattle.description.specs.declared.Description.{Description}
 use Rattle.description.specs.Rules.{Rules, current}
 use Rattle.decimal.specs.Decimal.{decimal}
@@ -11,6 +13,11 @@ use Rattle.query.specs.Query.{query_answer_by}
 use Rattle.text.specs.Text.{Bytes, tab, newline, lines, line_at, joined}
 use Rattle.replay.specs.declared.Replayed.{Replayed}
 use Rattle.replay.specs.Records.{is_readable, logged_window, logged_found, logged_looked}
+
+-- what code tells: how long the text is, or what the error says
+unfoldable pub told_replay : Result ℕ Refused → Replayed
+told_replay (Ok length) = record { number = 0; place = 0; length = length }
+told_replay (Err e) = record { number = (said e).number; place = (said e).place; length = 0 }
 
 -- `same`, `differs`, `bad`
 abbrev pub same_word : Bytes

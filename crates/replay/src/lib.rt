@@ -7,10 +7,11 @@ ghost use Rattle.description.specs.Description.{sides_of};
 ghost use Rattle.text.specs.Text.{lines};
 ghost use Rattle.text.specs.Code.Places.{Wrote};
 ghost use Rattle.replay.specs.Replay.{record_text, replay_text, replay_answer, replay_buffer, most_line, OneEach};
+ghost use Rattle.replay.specs.Replay.{told_replay};
 ghost use Rattle.replay.specs.Code.Reading.{newlines, SidesRead, logged_of};
 ghost use Rattle.replay.specs.Code.Writing.{outcome_text, outcome_line, agreed, pair_text, verdict};
 
-use answers::Reason;
+use answers::{Reason, Refused};
 use boxes::{Side, Window};
 use description::Description;
 
@@ -22,41 +23,54 @@ pub struct Replayed {
     pub length: u64,
 }
 
+// As C and the definitions have it.
+impl From<Result<u64, Refused>> for Replayed {
+    ghost from_gives = { λ answer r. r ≡ told_replay answer };
+
+    #[tactic(auto, unfolding(crate::specs::Replay::told_replay))]
+    fn from(answer: Result<u64, Refused>) -> Replayed {
+        match answer {
+            Ok(length) => Replayed {
+                number: 0,
+                place: 0,
+                length,
+            },
+            Err(e) => Replayed {
+                number: e.reason.number(),
+                place: e.place,
+                length: 0,
+            },
+        }
+    }
+}
+
 // No line of the text is longer: five numbers of at most 20 digits, `differs`, five tabs and a newline.
 const MOST_LINE: usize = 113;
 
 // The most bytes that a line of the log may have.
 const MOST_BYTES: usize = 255;
 
-// The text goes to the start of the buffer, if it has the room.
+// The text goes to the start of the buffer, if it has the room. The answer is how long it is.
 pub fn replay(
     description: Description,
     tiles: u64,
     body: &[u8],
     log: &[u8],
     out: &mut [u8],
-) -> Replayed
-    ensures answer { result ≡ replay_answer description tiles body.now log.now (length
+) -> Result<u64, Refused>
+    ensures answer { told_replay result ≡ replay_answer description tiles body.now log.now (length
         out.old) }
     ensures buffer { out.new ≡ replay_buffer description tiles body.now log.now
         out.old }
-    ensures room { most_line * length (lines log.now) ≤ length out.old → result.number ≡ 0 }
-    ensures records { result.number ≡ 0 → OneEach description tiles body.now log.now
-        (take result.length out.new) }
+    ensures room { most_line * length (lines log.now) ≤ length out.old → (told_replay result).number ≡ 0 }
+    ensures records { (told_replay result).number ≡ 0 → OneEach description tiles body.now log.now
+        (take (told_replay result).length out.new) }
 {
-    if has_room(description, tiles, body, log, out.len()) {
-        let length = write(description, tiles, body, log, out);
-        return Replayed {
-            number: 0,
-            place: 0,
-            length: length as u64,
-        };
+    if !has_room(description, tiles, body, log, out.len()) {
+        return Err(Reason::Room.at(0));
     }
-    Replayed {
-        number: Reason::Room.number(),
-        place: 0,
-        length: 0,
-    }
+    let length = write(description, tiles, body, log, out);
+    Ok(length as u64)
 }
 
 // Is the text no longer than that? With so many bytes for each line it always is; with less it is measured.
