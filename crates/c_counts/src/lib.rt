@@ -6,12 +6,14 @@ ghost use Rattle.tile_counts.specs.Counts.{sums_answer, sum_answer, null_counts_
 ghost use Rattle.c_arguments.specs.Described.{describe};
 ghost use Rattle.c_counts.specs.Places.{sums_places, counts_places};
 
+use tile_metadata::TileValues;
+
 // Checks sums.
 #[unsafe(no_mangle)]
 pub extern "C" fn tussockbell_sums(tiles: u64, body: &[u8], answer: &mut [u64; 3])
     ensures { answer.new ≡ sums_places (sums_answer tiles body.now) }
 {
-    let r = tile_counts::open_sums(tiles, body);
+    let r = TileValues::from(tile_counts::open_sums(tiles, body));
     *answer = [r.number, r.place, r.tiles];
 }
 

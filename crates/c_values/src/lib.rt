@@ -2,13 +2,14 @@
 #![tactic(auto)]
 
 ghost use Rattle.std.specs.Prelude.{◌≡◌, Some, None, get_or, take, drop};
+ghost use Rattle.tile_metadata.specs.Bodies.{told_values};
 ghost use Rattle.var_values.specs.VarValues.{var_values_answer, var_pair_answer, var_place_answer, var_value_of};
 ghost use Rattle.var_values.specs.VarValues.{var_value_answer};
 ghost use Rattle.c_values.specs.Numbered.{numbered_values, numbered_pair, numbered_value};
 ghost use Rattle.c_values.specs.Numbered.{numbered_bounds, of_kind};
 ghost use Rattle.c_values.specs.Places.{values_places, ranges_places, range_places, part_places};
 
-use answers::Reason;
+use answers::{Reason, Refused};
 use description::Kind;
 use lists::Extent;
 use tile_metadata::{TileValues, TwoBodies};
@@ -19,7 +20,7 @@ use tile_values::Bounds;
 pub extern "C" fn tussockbell_values(kind: u64, tiles: u64, body: &[u8], answer: &mut [u64; 3])
     ensures { answer.new ≡ values_places (numbered_values kind tiles body.now) }
 {
-    *answer = values_places(numbered_values(kind, tiles, body));
+    *answer = values_places(TileValues::from(numbered_values(kind, tiles, body)));
 }
 
 // A tile's value, after the whole body is checked.
@@ -70,7 +71,7 @@ pub extern "C" fn tussockbell_range(
 pub extern "C" fn tussockbell_var_values(tiles: u64, body: &[u8], answer: &mut [u64; 3])
     ensures { answer.new ≡ values_places (var_values_answer tiles body.now) }
 {
-    *answer = values_places(var_values::open_var_values(tiles, body));
+    *answer = values_places(TileValues::from(var_values::open_var_values(tiles, body)));
 }
 
 // Where a tile's value lies in the lent body, after the whole body is checked.
@@ -97,12 +98,12 @@ pub extern "C" fn tussockbell_var_ranges(
     *answer = ranges_places(var_values::open_var_pair(tiles, mins, maxes));
 }
 
-fn numbered_values(kind: u64, tiles: u64, body: &[u8]) -> TileValues
-    ensures { result ≡ numbered_values kind tiles body.now }
+fn numbered_values(kind: u64, tiles: u64, body: &[u8]) -> Result<u64, Refused>
+    ensures { told_values result ≡ numbered_values kind tiles body.now }
 {
     match known(kind) {
         Some(kind) => tile_values::open_values(kind, tiles, body),
-        None => TileValues::told(tiles, Err(Reason::Description.at(0))),
+        None => Err(Reason::Description.at(0)),
     }
 }
 

@@ -5,18 +5,20 @@ ghost use Rattle.std.specs.Prelude.{◌≡◌, true, false, ℕ, ◌+◌, ◌*�
 ghost use Rattle.answers.specs.Told.{told};
 ghost use Rattle.footer.specs.Answer.{cells_of};
 ghost use Rattle.lists.specs.Lists.{entry, list_refusal};
+ghost use Rattle.tile_metadata.specs.Bodies.{told_values};
 ghost use Rattle.tile_counts.specs.Counts.{counts_refusal, sums_answer, sum_of, sum_answer, null_counts_answer};
 ghost use Rattle.tile_counts.specs.Counts.{null_count_answer};
 
 use answers::{Reason, Refused};
 use description::Description;
-use tile_metadata::{TileValues, TwoBodies};
+use tile_metadata::TwoBodies;
 
 // The sums of a field.
-pub fn open_sums(tiles: u64, body: &[u8]) -> TileValues
-    ensures { result ≡ sums_answer tiles body.now }
+pub fn open_sums(tiles: u64, body: &[u8]) -> Result<u64, Refused>
+    ensures { told_values result ≡ sums_answer tiles body.now }
 {
-    TileValues::told(tiles, lists::check_list(body, tiles, 8))
+    lists::check_list(body, tiles, 8)?;
+    Ok(tiles)
 }
 
 // The null counts of a field, with the footer.
@@ -42,12 +44,11 @@ pub fn open_null_counts(
     TwoBodies::told(checked.tiles, Ok(()), counts)
 }
 
-// Tile i's sum, after the whole body is checked: a refused one answers 0 tiles, and has no tile i.
+// Tile i's sum, after the whole body is checked: 0 of a refused one.
 pub fn tile_sum(tiles: u64, body: &[u8], i: u64) -> u64
     ensures { result ≡ sum_answer tiles body.now i }
 {
-    let sums = open_sums(tiles, body);
-    sum_at(sums.tiles, body, i)
+    open_sums(tiles, body).map_or(0, |n| sum_at(n, body, i))
 }
 
 // Tile i's null count, after footer and body are checked.

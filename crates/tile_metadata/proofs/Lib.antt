@@ -2,3 +2,4 @@
 pub mod Turns
 pub mod Bodies
 pub mod Asked
+pub mod Telling

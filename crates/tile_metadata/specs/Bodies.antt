@@ -1,9 +1,11 @@
 -- What is a body of tile metadata, before its entries, and what do one body and two that are lent together answer?
 -- Assumes nothing.
-use Rattle.std.specs.Prelude.{ℕ, ◌+◌, ◌*◌, Bool, not, cond, List, [], ◌∷◌, ltb, eqb, length, drop}
+use Rattle.std.specs.Prelude.{ℕ, Result, Ok, Err, ◌+◌, ◌*◌, Bool, not, cond, List, [], ◌∷◌, ltb, eqb, length, drop}
 use Rattle.answers.specs.Refusals.{bytes, tiles, count}
 use Rattle.answers.specs.Checks.{check, first, each}
 use Rattle.answers.specs.declared.Refusal.{Refusal}
+use Rattle.answers.specs.declared.Refused.{Refused}
+use Rattle.answers.specs.Told.{number_of}
 use Rattle.description.specs.Limits.{least_tiles, most_tiles, outside}
 use Rattle.order.specs.Little.{little}
 use Rattle.tile_metadata.specs.declared.TileValues.{TileValues}
@@ -37,6 +39,11 @@ values_break breaks number w n = each (λ i. check (breaks i) number (8 + w * i)
 -- "An accepted body answers n": a refusal has 0 there
 abbrev pub answered : ℕ → Refusal → TileValues
 answered n r = record { number = r.number; place = r.place; tiles = cond (eqb r.number 0) n 0 }
+
+-- what code tells: n, or what the error says
+unfoldable pub told_values : Result ℕ Refused → TileValues
+told_values (Ok n) = record { number = 0; place = 0; tiles = n }
+told_values (Err e) = record { number = number_of e.reason; place = e.place; tiles = 0 }
 
 -- Two lent together, 0 the first and 1 the second: what is said of the first comes before what is said of the second. A
 -- refusal tells which of the two its place counts in, and every other number is 0.

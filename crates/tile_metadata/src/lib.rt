@@ -5,12 +5,12 @@
 ghost use Rattle.std.specs.Prelude.{◌≡◌, ◌+◌, ◌*◌, ◌≤◌, ◌<◌, ℕ, true, false, length};
 ghost use Rattle.order.specs.Little.{little};
 ghost use Rattle.answers.specs.Told.{told};
-ghost use Rattle.tile_metadata.specs.Bodies.{layout_refusal, answered, together, value_at, value_of};
+ghost use Rattle.tile_metadata.specs.Bodies.{layout_refusal, answered, told_values, together, value_at, value_of};
 
 use answers::{Reason, Refusal, Refused};
 use description::Description;
 
-// Number 0: not refused. An accepted body answers n.
+// What one body answers: a refusal, or n.
 #[derive(Clone, Copy)]
 pub struct TileValues {
     pub number: u64,
@@ -67,12 +67,24 @@ pub fn together(tiles: u64, first: Refusal, second: Refusal) -> TwoBodies
     }
 }
 
-impl TileValues {
-    // The same of what a check told.
-    pub fn told(tiles: u64, checked: Result<(), Refused>) -> TileValues
-        ensures { result ≡ answered tiles (told checked) }
-    {
-        answered(tiles, Refusal::from(checked))
+// As C and the definitions have it.
+impl From<Result<u64, Refused>> for TileValues {
+    ghost from_gives = { λ answer v. v ≡ told_values answer };
+
+    #[tactic(auto, unfolding(crate::specs::Bodies::told_values, answers::specs::Told::told))]
+    fn from(answer: Result<u64, Refused>) -> TileValues {
+        match answer {
+            Ok(tiles) => TileValues {
+                number: 0,
+                place: 0,
+                tiles,
+            },
+            Err(e) => TileValues {
+                number: e.reason.number(),
+                place: e.place,
+                tiles: 0,
+            },
+        }
     }
 }
 

@@ -5,7 +5,7 @@ ghost use Rattle.std.specs.Prelude.{◌≡◌, true, false, ℕ, ◌+◌, ◌*�
 ghost use Rattle.answers.specs.Told.{told};
 ghost use Rattle.order.specs.Little.{little};
 ghost use Rattle.description.specs.Kinds.{end_bytes, is_nan, key, ordered, at_most};
-ghost use Rattle.tile_metadata.specs.Bodies.{value_at};
+ghost use Rattle.tile_metadata.specs.Bodies.{told_values, value_at};
 ghost use Rattle.tile_values.specs.Values.{pattern, fixed_refusal, nan_breaks, values_refusal, order_breaks};
 ghost use Rattle.tile_values.specs.Values.{maxes_refusal, values_answer, pair_answer, pattern_of, value_answer};
 ghost use Rattle.tile_values.specs.Values.{bounds_answer};
@@ -14,7 +14,7 @@ use answers::{Reason, Refused};
 use description::Kind;
 use floats::Float;
 use ints::Int;
-use tile_metadata::{TileValues, TwoBodies};
+use tile_metadata::TwoBodies;
 
 // The patterns of a tile's min and max.
 #[derive(Clone, Copy)]
@@ -24,10 +24,11 @@ pub struct Bounds {
 }
 
 // The mins or the maxes of a field.
-pub fn open_values(kind: Kind, tiles: u64, body: &[u8]) -> TileValues
-    ensures { result ≡ values_answer kind tiles body.now }
+pub fn open_values(kind: Kind, tiles: u64, body: &[u8]) -> Result<u64, Refused>
+    ensures { told_values result ≡ values_answer kind tiles body.now }
 {
-    TileValues::told(tiles, check_values(kind, tiles, body))
+    check_values(kind, tiles, body)?;
+    Ok(tiles)
 }
 
 // The mins and the maxes together. Where every min is at most its max there is no NaN either, so that one pass over
@@ -44,12 +45,11 @@ pub fn open_pair(kind: Kind, tiles: u64, mins: &[u8], maxes: &[u8]) -> TwoBodies
     check_pair(kind, tiles, mins, maxes)
 }
 
-// Tile i's value, as its pattern, after the whole body is checked: a refused one answers 0 tiles, and has no tile i.
+// Tile i's value, as its pattern, after the whole body is checked: 0 of a refused one.
 pub fn tile_value(kind: Kind, tiles: u64, body: &[u8], i: u64) -> u64
     ensures { result ≡ value_answer kind tiles body.now i }
 {
-    let values = open_values(kind, tiles, body);
-    value_at(kind, values.tiles, body, i)
+    open_values(kind, tiles, body).map_or(0, |n| value_at(kind, n, body, i))
 }
 
 // Tile i's min and max, after both bodies are checked together.

@@ -5,19 +5,20 @@ ghost use Rattle.std.specs.Prelude.{◌≡◌, true, false, ℕ, ◌+◌, ◌*�
 ghost use Rattle.answers.specs.Told.{told};
 ghost use Rattle.lists.specs.Lists.{entry};
 ghost use Rattle.lists.specs.Offsets.{end_of};
-ghost use Rattle.tile_metadata.specs.Bodies.{buffer_size, layout_refusal};
+ghost use Rattle.tile_metadata.specs.Bodies.{told_values, buffer_size, layout_refusal};
 ghost use Rattle.var_values.specs.VarValues.{var_values_refusal, var_values_answer, var_pair_answer, nowhere};
 ghost use Rattle.var_values.specs.VarValues.{var_place_of, var_place_answer, var_value_of, var_value_answer};
 
 use answers::Refused;
 use lists::Extent;
-use tile_metadata::{TileValues, TwoBodies};
+use tile_metadata::TwoBodies;
 
 // The mins or the maxes of a field.
-pub fn open_var_values(tiles: u64, body: &[u8]) -> TileValues
-    ensures { result ≡ var_values_answer tiles body.now }
+pub fn open_var_values(tiles: u64, body: &[u8]) -> Result<u64, Refused>
+    ensures { told_values result ≡ var_values_answer tiles body.now }
 {
-    TileValues::told(tiles, check_var_values(tiles, body))
+    check_var_values(tiles, body)?;
+    Ok(tiles)
 }
 
 // The mins and the maxes together.
@@ -29,21 +30,25 @@ pub fn open_var_pair(tiles: u64, mins: &[u8], maxes: &[u8]) -> TwoBodies
     TwoBodies::told(tiles, first, second)
 }
 
-// Tile i's value as that part of the lent body, after the whole body is checked: a refused one answers 0 tiles, and has
-// no tile i.
+// Tile i's value as that part of the lent body, after the whole body is checked: no bytes of a refused one.
 pub fn tile_var_value(tiles: u64, body: &[u8], i: u64) -> &[u8]
     ensures { result.now ≡ var_value_answer tiles body.now i }
 {
-    let values = open_var_values(tiles, body);
-    var_value_at(values.tiles, body, i)
+    match open_var_values(tiles, body) {
+        Ok(n) => var_value_at(n, body, i),
+        Err(_) => &body[..0],
+    }
 }
 
 // Where that part lies in the lent body: the place of its first byte, and how many bytes it has.
 pub fn tile_var_place(tiles: u64, body: &[u8], i: u64) -> Extent
     ensures { result ≡ var_place_answer tiles body.now i }
 {
-    let values = open_var_values(tiles, body);
-    var_place_at(values.tiles, body, i)
+    let nowhere = Extent {
+        offset: 0,
+        extent: 0,
+    };
+    open_var_values(tiles, body).map_or(nowhere, |n| var_place_at(n, body, i))
 }
 
 // Tile i's value with no check of the body, for one that is known to be accepted.
