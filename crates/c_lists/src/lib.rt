@@ -7,14 +7,14 @@ ghost use Rattle.lists.specs.VarOffsets.{var_offsets_answer, var_extent_answer};
 ghost use Rattle.lists.specs.Sizes.{sizes_answer};
 ghost use Rattle.c_lists.specs.Places.{offsets_places, sizes_places, extent_places};
 
-use lists::{Extent, TileOffsets};
+use lists::{Extent, TileOffsets, TileSizes};
 
 // Checks tile offsets.
 #[unsafe(no_mangle)]
 pub extern "C" fn tussockbell_offsets(tiles: u64, size: u64, list: &[u8], answer: &mut [u64; 3])
     ensures { answer.new ≡ offsets_places (offsets_answer tiles size list.now) }
 {
-    *answer = offsets_places(entries::open_offsets(list, tiles, size));
+    *answer = offsets_places(TileOffsets::from(entries::open_offsets(list, tiles, size)));
 }
 
 // A tile's offset and extent, after the whole list is checked.
@@ -36,7 +36,7 @@ pub extern "C" fn tussockbell_extent(
 pub extern "C" fn tussockbell_var_offsets(tiles: u64, size: u64, list: &[u8], answer: &mut [u64; 3])
     ensures { answer.new ≡ offsets_places (var_offsets_answer tiles size list.now) }
 {
-    *answer = offsets_places(entries::open_var_offsets(list, tiles, size));
+    *answer = offsets_places(TileOffsets::from(entries::open_var_offsets(list, tiles, size)));
 }
 
 // A tile's offset and extent in a list of var offsets, after the whole list is checked.
@@ -72,7 +72,7 @@ pub extern "C" fn tussockbell_extent_at(
 pub extern "C" fn tussockbell_sizes(tiles: u64, list: &[u8], answer: &mut [u64; 3])
     ensures { answer.new ≡ sizes_places (sizes_answer tiles list.now) }
 {
-    let r = entries::open_sizes(list, tiles);
+    let r = TileSizes::from(entries::open_sizes(list, tiles));
     *answer = [r.number, r.place, r.sum];
 }
 

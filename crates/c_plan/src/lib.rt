@@ -26,7 +26,7 @@ pub extern "C" fn tussockbell_read_plan(
     ensures buffer { out.new ≡ plan_output tiles size list.now gap run.now
         (length work.old) out.old }
 {
-    *answer = plan_places(plan::read_plan(list, tiles, size, gap, run, work, out));
+    *answer = plan_places(ReadPlan::from(plan::read_plan(list, tiles, size, gap, run, work, out)));
 }
 
 // The same of var offsets.
@@ -46,7 +46,9 @@ pub extern "C" fn tussockbell_var_read_plan(
     ensures buffer { out.new ≡ var_plan_output tiles size list.now gap run.now
         (length work.old) out.old }
 {
-    *answer = plan_places(plan::var_read_plan(list, tiles, size, gap, run, work, out));
+    *answer = plan_places(ReadPlan::from(plan::var_read_plan(
+        list, tiles, size, gap, run, work, out,
+    )));
 }
 
 // The same with no check of the list, by either rule.
@@ -66,7 +68,9 @@ pub extern "C" fn tussockbell_read_plan_at(
     ensures buffer { out.new ≡ output_at tiles size list.now gap run.now
         (length work.old) out.old }
 {
-    *answer = plan_places(plan::read_plan_at(list, tiles, size, gap, run, work, out));
+    *answer = plan_places(ReadPlan::from(plan::read_plan_at(
+        list, tiles, size, gap, run, work, out,
+    )));
 }
 
 // The offset and the extent of each tile of a run, with no check of the list.

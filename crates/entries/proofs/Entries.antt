@@ -2,23 +2,30 @@
 -- is sound.
 -- Assumes nothing.
 use mathlib.Core.Path.{◌≡◌, sym, ◌∙◌}
-use mathlib.Core.Bool.{Bool, false}
+use Rattle.std.specs.Prelude.{Result, Ok, Err}
+use mathlib.Core.Bool.{Bool, false, cond}
 use mathlib.Core.List.{List}
 use Prim.Native.Nat.{ℕ, ◌+◌, ◌*◌, ◌/◌, ◌≤◌, ◌<◌}
 use native.Mathlib.Nat.{add_assoc, zero-add, add-zero}
 use native.Mathlib.Numerals.{add-one}
 use native.Mathlib.Decide.{dec_lt}
 use native.Mathlib.Omega.{arith}
-use lib.Dec.{ltb, leb}
+use lib.Dec.{ltb, leb, eqb}
 use lib.ListN.{length}
-use borrow.Author.Tests.{lt-ltb, le-ltb, le-leb, lt-leb}
+use borrow.Author.Tests.{lt-ltb, le-ltb, le-leb, lt-leb, ne_eqb}
 use Rattle.answers.specs.Refusals.{refusal, bytes, the_tile_offsets}
+use Rattle.answers.specs.Told.{number_of}
+use Rattle.answers.specs.declared.Refusal.{Refusal}
+use Rattle.answers.specs.declared.Refused.{Refused}
 use Rattle.answers.specs.Runs.{sum}
 use Rattle.answers.specs.Checks.{check, each}
+use Rattle.answers.proofs.Told.{refuses}
 use Rattle.answers.proofs.Runs.{over-snoc, Each}
 use Rattle.answers.proofs.Checks.{past, stop, clear, past-check, stop-check, check-clear, each_none, each-clear, last}
 use Rattle.lists.specs.Lists.{entry, list_refusal, entries_refusal, entries_refusal_by}
 use Rattle.lists.specs.VarOffsets.{var_breaks, starts_refusal}
+use Rattle.lists.specs.Sizes.{told_sum}
+use Rattle.entries.specs.Code.Rules.{Says}
 
 -- ---- sums
 pub sum-next : (g : ℕ → ℕ) (i : ℕ) → sum g 0 (i + 1) ≡ sum g 0 i + g i
@@ -45,6 +52,13 @@ module _ (breaks : ℕ → Bool) (number n : ℕ) (s : List ℕ) where
   entries-sound some accepted i a b =
       let each-one = each-clear _ 0 n (clear _ _ (clear _ _ accepted).1).0 in
       check-clear (breaks i) number (8 + 8 * i) some (each-one i a b)
+
+-- ---- what a check that answers a sum tells
+pub says-sum : (r : Result ℕ Refused) (x : Refusal) (value : ℕ) → Says x value r
+    → told_sum r ≡ record { number = x.number; place = x.place; sum = cond (eqb x.number 0) value 0 }
+unfolding told_sum
+says-sum (Ok v) x value says = rw (says.0, says.1)
+says-sum (Err e) x value says = rw (← says, ne_eqb (number_of e.reason) 0 (refuses e))
 
 -- ---- starts, where the bytes are as many as they need, and where they aren't
 module _ (n size : ℕ) (s : List ℕ) where

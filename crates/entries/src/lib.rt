@@ -6,28 +6,29 @@ ghost use Rattle.answers.specs.Told.{told, number_of};
 ghost use Rattle.answers.specs.declared.Reason.{Reason};
 ghost use Rattle.order.specs.Little.{little};
 ghost use Rattle.lists.specs.Lists.{entry, entries_refusal};
-ghost use Rattle.lists.specs.Offsets.{answered, offset_breaks, offsets_refusal, offsets_answer, EndToEnd, Extents};
+ghost use Rattle.lists.specs.Offsets.{told_tiles, offset_breaks, offsets_refusal, offsets_answer, EndToEnd, Extents};
 ghost use Rattle.lists.specs.VarOffsets.{var_breaks, var_offsets_refusal, var_offsets_answer, starts_refusal};
-ghost use Rattle.lists.specs.Sizes.{size_breaks, sizes_answer};
+ghost use Rattle.lists.specs.Sizes.{told_sum, size_breaks, sizes_answer};
 ghost use Rattle.entries.specs.Code.Rules.{before, so_far, so_far-none, Stepped, Says, entries_each};
 
 use answers::{Reason, Refused};
-use lists::{TileOffsets, TileSizes};
 
-// Tile offsets of a data file of `size` bytes, S.
-pub fn open_offsets(body: &[u8], tiles: u64, size: u64) -> TileOffsets
-    ensures answer { result ≡ offsets_answer tiles size body.now }
-    ensures extents { result.number ≡ 0 → Extents tiles size body.now }
+// How many tiles an accepted list of tile offsets has, of a data file of `size` bytes, S.
+pub fn open_offsets(body: &[u8], tiles: u64, size: u64) -> Result<u64, Refused>
+    ensures answer { told_tiles result ≡ offsets_answer tiles size body.now }
+    ensures extents { (told_tiles result).number ≡ 0 → Extents tiles size body.now }
 {
-    answered(check_offsets(body, tiles, size), tiles)
+    check_offsets(body, tiles, size)?;
+    Ok(tiles)
 }
 
-// Var offsets of a data file of `size` bytes, S, where a tile may have no bytes.
-pub fn open_var_offsets(body: &[u8], tiles: u64, size: u64) -> TileOffsets
-    ensures answer { result ≡ var_offsets_answer tiles size body.now }
-    ensures extents { result.number ≡ 0 → EndToEnd tiles size body.now }
+// The same of var offsets, where a tile may have no bytes.
+pub fn open_var_offsets(body: &[u8], tiles: u64, size: u64) -> Result<u64, Refused>
+    ensures answer { told_tiles result ≡ var_offsets_answer tiles size body.now }
+    ensures extents { (told_tiles result).number ≡ 0 → EndToEnd tiles size body.now }
 {
-    answered(check_var_offsets(body, tiles, size), tiles)
+    check_var_offsets(body, tiles, size)?;
+    Ok(tiles)
 }
 
 // What tile offsets are refused for.
@@ -57,40 +58,10 @@ pub fn check_starts(body: &[u8], tiles: u64, size: u64) -> Result<(), Refused>
 }
 
 // Tile sizes: their sum, or the entry that takes it past 2^64 - 1.
-pub fn open_sizes(body: &[u8], tiles: u64) -> TileSizes
-    ensures { result ≡ sizes_answer tiles body.now }
+pub fn open_sizes(body: &[u8], tiles: u64) -> Result<u64, Refused>
+    ensures { told_sum result ≡ sizes_answer tiles body.now }
 {
-    match check_entries(body, tiles, Sizes) {
-        Ok(sum) => TileSizes {
-            number: 0,
-            place: 0,
-            sum,
-        },
-        Err(e) => TileSizes {
-            number: e.reason.number(),
-            place: e.place,
-            sum: 0,
-        },
-    }
-}
-
-// An accepted list answers n.
-#[tactic(auto, using(answers::proofs::Told::refuses), unfolding(answers::specs::Told::told))]
-fn answered(list: Result<(), Refused>, tiles: u64) -> TileOffsets
-    ensures { result ≡ answered tiles (told list) }
-{
-    match list {
-        Ok(()) => TileOffsets {
-            number: 0,
-            place: 0,
-            tiles,
-        },
-        Err(e) => TileOffsets {
-            number: e.reason.number(),
-            place: e.place,
-            tiles: 0,
-        },
-    }
+    check_entries(body, tiles, Sizes)
 }
 
 // What the entries of a list keep to, one after the other.

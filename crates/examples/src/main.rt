@@ -12,7 +12,7 @@ use description::{Description, Dimension, Kind};
 use floats::Float;
 use footer::Footer;
 use ints::Int;
-use lists::{Extent, TileOffsets};
+use lists::{Extent, TileOffsets, TileSizes};
 use query::Answer;
 use ranges::Range;
 use rtree::Opened;
@@ -191,7 +191,7 @@ fn offsets_case(rt: &impl Print, case: &[u8], bytes: &[u8]) {
     let n = order::u64_at(case, 72);
     let size = order::u64_at(case, 80);
     let i = order::u64_at(case, 88);
-    let r = entries::open_offsets(bytes, n, size);
+    let r = TileOffsets::from(entries::open_offsets(bytes, n, size));
     offsets_answer(rt, r, extents::tile_extent(bytes, n, size, i));
 }
 
@@ -199,7 +199,7 @@ fn var_offsets_case(rt: &impl Print, case: &[u8], bytes: &[u8]) {
     let n = order::u64_at(case, 72);
     let size = order::u64_at(case, 80);
     let i = order::u64_at(case, 88);
-    let r = entries::open_var_offsets(bytes, n, size);
+    let r = TileOffsets::from(entries::open_var_offsets(bytes, n, size));
     offsets_answer(rt, r, extents::var_tile_extent(bytes, n, size, i));
 }
 
@@ -209,7 +209,7 @@ fn offsets_answer(rt: &impl Print, r: TileOffsets, e: Extent) {
 }
 
 fn sizes_case(rt: &impl Print, case: &[u8], bytes: &[u8]) {
-    let r = entries::open_sizes(bytes, order::u64_at(case, 72));
+    let r = TileSizes::from(entries::open_sizes(bytes, order::u64_at(case, 72)));
     numbers(rt, &[r.number, r.place, r.sum]);
 }
 

@@ -7,18 +7,18 @@ ghost use Rattle.lists.specs.VarOffsets.{var_extent_answer};
 
 use lists::Extent;
 
-// Tile i's offset and extent, after the whole list is checked: a refused one answers 0 tiles, and has no tile i.
+// Tile i's offset and extent, after the whole list is checked: a refused one has none.
 pub fn tile_extent(body: &[u8], tiles: u64, size: u64, i: u64) -> Extent
     ensures { result ≡ extent_answer tiles size body.now i }
 {
-    let list = entries::open_offsets(body, tiles, size);
-    lists::extent_at(body, list.tiles, size, i)
+    let listed = entries::open_offsets(body, tiles, size).unwrap_or(0);
+    lists::extent_at(body, listed, size, i)
 }
 
 // Tile i's offset and extent in a list of var offsets, after the whole list is checked.
 pub fn var_tile_extent(body: &[u8], tiles: u64, size: u64, i: u64) -> Extent
     ensures { result ≡ var_extent_answer tiles size body.now i }
 {
-    let checked = entries::open_var_offsets(body, tiles, size);
-    lists::extent_at(body, checked.tiles, size, i)
+    let listed = entries::open_var_offsets(body, tiles, size).unwrap_or(0);
+    lists::extent_at(body, listed, size, i)
 }

@@ -2,3 +2,4 @@
 pub mod Header
 pub mod Rules
 pub mod Examples
+pub mod Telling

@@ -1,9 +1,11 @@
 -- When are tile offsets refused, and where do a tile's bytes start and end?
 -- Assumes nothing.
-use Rattle.std.specs.Prelude.{◌≡◌, ℕ, ◌+◌, ◌-◌, ◌<◌, Bool, not, ◌||◌, cond, List, ltb, leb, eqb}
+use Rattle.std.specs.Prelude.{◌≡◌, ℕ, Result, Ok, Err, ◌+◌, ◌-◌, ◌<◌, Bool, not, ◌||◌, cond, List, ltb, leb, eqb}
 use Rattle.answers.specs.Refusals.{the_tile_offsets}
 use Rattle.answers.specs.Runs.{sum}
 use Rattle.answers.specs.declared.Refusal.{Refusal}
+use Rattle.answers.specs.declared.Refused.{Refused}
+use Rattle.answers.specs.Told.{number_of}
 use Rattle.description.specs.Rules.{Rules, current}
 use Rattle.lists.specs.declared.TileOffsets.{TileOffsets}
 use Rattle.lists.specs.declared.Extent.{Extent}
@@ -22,6 +24,11 @@ offsets_refusal = offsets_refusal_by current
 -- "An accepted list answers n": a refusal has 0 there
 abbrev pub answered : ℕ → Refusal → TileOffsets
 answered n r = record { number = r.number; place = r.place; tiles = cond (eqb r.number 0) n 0 }
+
+-- what code tells: how many tiles there are, or what the error says
+unfoldable pub told_tiles : Result ℕ Refused → TileOffsets
+told_tiles (Ok n) = record { number = 0; place = 0; tiles = n }
+told_tiles (Err e) = record { number = number_of e.reason; place = e.place; tiles = 0 }
 
 abbrev pub offsets_answer_by : Rules → ℕ → ℕ → List ℕ → TileOffsets
 offsets_answer_by rules n S s = answered n (offsets_refusal_by rules n S s)

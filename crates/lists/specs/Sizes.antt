@@ -1,9 +1,11 @@
 -- When are tile sizes refused, and what do they add up to?
 -- Assumes nothing.
-use Rattle.std.specs.Prelude.{ℕ, ◌+◌, ◌-◌, ◌^◌, Bool, cond, List, ltb, eqb}
+use Rattle.std.specs.Prelude.{ℕ, Result, Ok, Err, ◌+◌, ◌-◌, ◌^◌, Bool, cond, List, ltb, eqb}
 use Rattle.answers.specs.Refusals.{sizes_sum}
 use Rattle.answers.specs.Runs.{sum}
 use Rattle.answers.specs.declared.Refusal.{Refusal}
+use Rattle.answers.specs.declared.Refused.{Refused}
+use Rattle.answers.specs.Told.{number_of}
 use Rattle.description.specs.Rules.{Rules, current}
 use Rattle.lists.specs.declared.TileSizes.{TileSizes}
 use Rattle.lists.specs.Lists.{entry, entries_refusal_by}
@@ -17,6 +19,11 @@ sizes_refusal_by rules n s = entries_refusal_by rules (size_breaks (entry s)) si
 
 abbrev pub sizes_refusal : ℕ → List ℕ → Refusal
 sizes_refusal = sizes_refusal_by current
+
+-- what code tells: the sum, or what the error says
+unfoldable pub told_sum : Result ℕ Refused → TileSizes
+told_sum (Ok x) = record { number = 0; place = 0; sum = x }
+told_sum (Err e) = record { number = number_of e.reason; place = e.place; sum = 0 }
 
 -- "the answer is their sum": a refusal has 0 there
 abbrev pub sizes_answer_by : Rules → ℕ → List ℕ → TileSizes

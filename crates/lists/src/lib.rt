@@ -5,7 +5,8 @@
 ghost use Rattle.std.specs.Prelude.{◌≡◌, ◌-◌, ◌<◌};
 ghost use Rattle.answers.specs.Told.{told};
 ghost use Rattle.lists.specs.Lists.{entry, list_refusal};
-ghost use Rattle.lists.specs.Offsets.{end_of, extent_at};
+ghost use Rattle.lists.specs.Offsets.{told_tiles, end_of, extent_at};
+ghost use Rattle.lists.specs.Sizes.{told_sum};
 
 use answers::{Reason, Refused};
 use description::Description;
@@ -18,12 +19,54 @@ pub struct TileOffsets {
     pub tiles: u64,
 }
 
+// As C and the definitions have it.
+impl From<Result<u64, Refused>> for TileOffsets {
+    ghost from_gives = { λ answer r. r ≡ told_tiles answer };
+
+    #[tactic(auto, unfolding(crate::specs::Offsets::told_tiles))]
+    fn from(answer: Result<u64, Refused>) -> TileOffsets {
+        match answer {
+            Ok(tiles) => TileOffsets {
+                number: 0,
+                place: 0,
+                tiles,
+            },
+            Err(e) => TileOffsets {
+                number: e.reason.number(),
+                place: e.place,
+                tiles: 0,
+            },
+        }
+    }
+}
+
 // As C has it. Number 0: not refused. An accepted list answers the sum of its sizes.
 #[derive(Clone, Copy)]
 pub struct TileSizes {
     pub number: u64,
     pub place: u64,
     pub sum: u64,
+}
+
+// As C and the definitions have it.
+impl From<Result<u64, Refused>> for TileSizes {
+    ghost from_gives = { λ answer r. r ≡ told_sum answer };
+
+    #[tactic(auto, unfolding(crate::specs::Sizes::told_sum))]
+    fn from(answer: Result<u64, Refused>) -> TileSizes {
+        match answer {
+            Ok(sum) => TileSizes {
+                number: 0,
+                place: 0,
+                sum,
+            },
+            Err(e) => TileSizes {
+                number: e.reason.number(),
+                place: e.place,
+                sum: 0,
+            },
+        }
+    }
 }
 
 // Where a tile's bytes start in the data file, and how many they are.

@@ -1,14 +1,17 @@
 -- Which bytes of a data file are read for a run of tiles?
 -- Assumes nothing.
-use Rattle.std.specs.Prelude.{ℕ, zero, suc, ◌+◌, ◌-◌, ◌/◌, ◌%◌, ◌^◌, Bool, false, cond, ◌&&◌, ◌||◌, leb, List, [], ◌∷◌, length, take, ◌==◌, nat_eq, nat_le, nat_lt}
+use Rattle.std.specs.Prelude.{ℕ, zero, suc, Result, Ok, Err, ◌+◌, ◌-◌, ◌/◌, ◌%◌, ◌^◌, Bool, false, cond, ◌&&◌, ◌||◌, leb, List, [], ◌∷◌, length, take, ◌==◌, nat_eq, nat_le, nat_lt}
 use Rattle.answers.specs.Refusals.{none, work}
 use Rattle.answers.specs.Checks.{check, otherwise}
 use Rattle.answers.specs.Laid.{laid}
 use Rattle.answers.specs.Runs.{sum}
 use Rattle.answers.specs.declared.Refusal.{Refusal}
+use Rattle.answers.specs.declared.Refused.{Refused}
+use Rattle.answers.specs.Told.{said}
 use Rattle.lists.specs.Offsets.{offsets_refusal, offset_of, extent_of}
 use Rattle.lists.specs.VarOffsets.{var_offsets_refusal}
 use Rattle.plan.specs.declared.Range.{Range}
+use Rattle.plan.specs.declared.Planned.{Planned}
 use Rattle.plan.specs.declared.ReadPlan.{ReadPlan}
 
 abbrev pub range : ℕ → ℕ → Range
@@ -84,6 +87,13 @@ plan_after list n S s g run room =
       outside = cond accepted (how_many (λ x. leb n x) run) 0;
       bytes = cond accepted (total (read_ranges n S s g run) % 2 ^ 64) 0;
     }
+
+-- what code tells: what is planned, or what the error says and 0 in all else
+unfoldable pub told_plan : Result Planned Refused → ReadPlan
+told_plan (Ok p) =
+    record { number = 0; place = 0; ranges = p.ranges; tiles = p.tiles; outside = p.outside; bytes = p.bytes }
+told_plan (Err e) =
+    record { number = (said e).number; place = (said e).place; ranges = 0; tiles = 0; outside = 0; bytes = 0 }
 
 -- "as many whole ranges as fit, the rest untouched"
 abbrev pub output_after : Refusal → ℕ → ℕ → List ℕ → ℕ → List ℕ → ℕ → List ℕ → List ℕ

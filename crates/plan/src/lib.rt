@@ -3,16 +3,25 @@
 
 ghost use Rattle.std.specs.Prelude.{◌≡◌, ◌+◌, ◌-◌, ◌*◌, ◌/◌, ◌^◌, ◌<◌, ◌≤◌, false, [], ◌∷◌, length, take, nat_lt};
 ghost use Rattle.std.proofs.lemmas.List.Edits.{sets};
-ghost use Rattle.answers.specs.Told.{told, number_of};
+ghost use Rattle.answers.specs.Told.{told};
 ghost use Rattle.plan.specs.Plan.{how_many, words, tile_bytes, plan_refusal, plan_after, output_after};
-ghost use Rattle.plan.specs.Plan.{plan_answer, plan_output, var_plan_answer, var_plan_output, plan_at, output_at};
+ghost use Rattle.plan.specs.Plan.{told_plan, plan_answer, plan_output, var_plan_answer, var_plan_output, plan_at, output_at};
 ghost use Rattle.plan.specs.Code.Marks.{marking, marked, MarksRun, Cleared, Unmarked, Skipped};
 ghost use Rattle.plan.specs.Code.Progress.{opened, joined, Closed, Visited, Scanned};
 
 use answers::{Reason, Refused};
 
-// As C has it. Number 0: not refused. How many ranges there are, how many different tiles the run names, how many of its
-// entries name none, and how many bytes the ranges have; all 0 in a refusal.
+// What is planned: how many ranges there are, how many different tiles the run names, how many of its entries name none,
+// and how many bytes the ranges have.
+#[derive(Clone, Copy, Debug, PartialEq, Eq)]
+pub struct Planned {
+    pub ranges: u64,
+    pub tiles: u64,
+    pub outside: u64,
+    pub bytes: u64,
+}
+
+// As C and the definitions have it. Number 0: not refused; a refusal has 0 in all that is planned.
 #[derive(Clone, Copy)]
 pub struct ReadPlan {
     pub number: u64,
@@ -21,6 +30,32 @@ pub struct ReadPlan {
     pub tiles: u64,
     pub outside: u64,
     pub bytes: u64,
+}
+
+impl From<Result<Planned, Refused>> for ReadPlan {
+    ghost from_gives = { λ answer r. r ≡ told_plan answer };
+
+    #[tactic(auto, unfolding(crate::specs::Plan::told_plan))]
+    fn from(answer: Result<Planned, Refused>) -> ReadPlan {
+        match answer {
+            Ok(plan) => ReadPlan {
+                number: 0,
+                place: 0,
+                ranges: plan.ranges,
+                tiles: plan.tiles,
+                outside: plan.outside,
+                bytes: plan.bytes,
+            },
+            Err(e) => ReadPlan {
+                number: e.reason.number(),
+                place: e.place,
+                ranges: 0,
+                tiles: 0,
+                outside: 0,
+                bytes: 0,
+            },
+        }
+    }
 }
 
 // The read plan of tile offsets, which are checked first. `work` is to have a bit a tile; what it holds before doesn't
@@ -33,8 +68,8 @@ pub fn read_plan(
     run: &[u32],
     work: &mut [u8],
     out: &mut [u64],
-) -> ReadPlan
-    ensures answer { result ≡ plan_answer tiles size body.now gap run.now
+) -> Result<Planned, Refused>
+    ensures answer { told_plan result ≡ plan_answer tiles size body.now gap run.now
         (length work.old) }
     ensures buffer { out.new ≡ plan_output tiles size body.now gap run.now
         (length work.old) out.old }
@@ -52,8 +87,8 @@ pub fn var_read_plan(
     run: &[u32],
     work: &mut [u8],
     out: &mut [u64],
-) -> ReadPlan
-    ensures answer { result ≡ var_plan_answer tiles size body.now gap run.now
+) -> Result<Planned, Refused>
+    ensures answer { told_plan result ≡ var_plan_answer tiles size body.now gap run.now
         (length work.old) }
     ensures buffer { out.new ≡ var_plan_output tiles size body.now gap run.now
         (length work.old) out.old }
@@ -72,8 +107,8 @@ pub fn read_plan_at(
     run: &[u32],
     work: &mut [u8],
     out: &mut [u64],
-) -> ReadPlan
-    ensures answer { result ≡ plan_at tiles size body.now gap run.now
+) -> Result<Planned, Refused>
+    ensures answer { told_plan result ≡ plan_at tiles size body.now gap run.now
         (length work.old) }
     ensures buffer { out.new ≡ output_at tiles size body.now gap run.now
         (length work.old) out.old }
@@ -93,29 +128,23 @@ fn plan_after(
     run: &[u32],
     work: &mut [u8],
     out: &mut [u64],
-) -> ReadPlan
-    ensures answer { result ≡ plan_after (told list) tiles size body.now gap run.now
+) -> Result<Planned, Refused>
+    ensures answer { told_plan result ≡ plan_after (told list) tiles size body.now gap run.now
         (length work.old) }
     ensures buffer { out.new ≡ output_after (told list) tiles size body.now gap run.now
         (length work.old) out.old }
 {
-    match check(list, tiles, work.len() as u64) {
-        Ok(()) => {
-            clear(work, eighth(tiles) as usize);
-            let inside = mark(run, tiles, work);
-            let p = scan(body, tiles, size, gap, work, out);
-            let written = close(out, p);
-            ReadPlan {
-                number: 0,
-                place: 0,
-                ranges: written.ranges,
-                tiles: p.tiles,
-                outside: run.len() as u64 - inside,
-                bytes: written.bytes,
-            }
-        }
-        Err(e) => refused(e),
-    }
+    check(list, tiles, work.len() as u64)?;
+    clear(work, eighth(tiles) as usize);
+    let inside = mark(run, tiles, work);
+    let p = scan(body, tiles, size, gap, work, out);
+    let written = close(out, p);
+    Ok(Planned {
+        ranges: written.ranges,
+        tiles: p.tiles,
+        outside: run.len() as u64 - inside,
+        bytes: written.bytes,
+    })
 }
 
 // After what the list is refused with, a work buffer that is too short.
@@ -124,26 +153,6 @@ fn check(list: Result<(), Refused>, tiles: u64, room: u64) -> Result<(), Refused
 {
     list?;
     Reason::Work.when(room < eighth(tiles), 0)
-}
-
-fn refused(e: Refused) -> ReadPlan
-    ensures { result ≡ record {
-      number = number_of e.reason;
-      place = e.place;
-      ranges = 0;
-      tiles = 0;
-      outside = 0;
-      bytes = 0;
-    } }
-{
-    ReadPlan {
-        number: e.reason.number(),
-        place: e.place,
-        ranges: 0,
-        tiles: 0,
-        outside: 0,
-        bytes: 0,
-    }
 }
 
 // n / 8, rounded up.

@@ -3,6 +3,7 @@
 
 ghost use Rattle.std.specs.Prelude.{◌≡◌, ◌≢◌, ℕ, ◌+◌, ◌≤◌, List, length, drop, cond, Some, None, IfOk, IfErr, OnOk};
 ghost use Rattle.answers.specs.Laid.{laid};
+ghost use Rattle.answers.specs.Told.{said};
 ghost use Rattle.answers.specs.Runs.{filled};
 ghost use Rattle.decimal.specs.Read.{read_number};
 ghost use Rattle.decimal.specs.Write.{put};
@@ -16,7 +17,7 @@ ghost use Rattle.report_text.specs.Code.Reading.{Next, side_read, KindsRead, Sid
 ghost use Rattle.report_text.specs.Code.Writing.{most_written, most_found, listed, Holds, Puts};
 ghost use Rattle.report_text.specs.Code.Writing.{unlisted_text, outcome_text, Renders};
 
-use answers::{Reason, Refusal};
+use answers::{Reason, Refusal, Refused};
 use boxes::{Side, Window};
 use description::{Description, Dimension, Kind};
 
@@ -87,6 +88,17 @@ enum Unlisted {
     Refused(Refusal),
 }
 
+impl From<Refused> for Unlisted {
+    ghost use Rattle.report_text.specs.declared.Unlisted.{Unlisted};
+
+    ghost from_gives = { λ e why. why ≡ Unlisted.Refused (said e) };
+
+    #[tactic(auto, unfolding(answers::specs::Told::told))]
+    fn from(e: Refused) -> Unlisted {
+        Unlisted::Refused(Refusal::from(Err(e)))
+    }
+}
+
 fn any_long(description: &[u8], footer: &[u8], tree: &[u8], offsets: &[u8]) -> bool
     ensures { result ≡ is_long description.now footer.now tree.now offsets.now }
 {
@@ -132,8 +144,7 @@ fn open_and_query(
     let description = asked.description;
     let opened = opening::open(description, asked.file_size, footer, tree);
     pass(opened.number, opened.place)?;
-    let listed = entries::open_offsets(offsets, opened.tiles, asked.data_size);
-    pass(listed.number, listed.place)?;
+    entries::open_offsets(offsets, opened.tiles, asked.data_size)?;
     let answer = query::query(description, opened.tiles, tree, asked.window, tiles);
     pass(answer.number, answer.place)?;
     let checked = footer::check(description, asked.file_size, footer);

@@ -199,6 +199,8 @@ fn least_by_key(
     Patterns { low, high }
 }
 
+// Of floats, which are no NaNs, once for each format: `from_bits`, `to_bits` and the comparisons below are a format's
+// own, and a trait for them would be longer than what it saves.
 fn least_f32(level: &[u8], box_bytes: usize, side: usize, first: usize, count: usize) -> Patterns
     requires { SideRow Kind.Float32 level.now box_bytes side first count }
     ensures { LeastEnds Kind.Float32 level.now box_bytes side first (count - 1) result }
@@ -207,14 +209,11 @@ fn least_f32(level: &[u8], box_bytes: usize, side: usize, first: usize, count: u
     let ends = ends_at(level, at, Kind::Float32);
     let mut low = f32::from_bits(ints::low_four(ends.low));
     let mut high = f32::from_bits(ints::low_four(ends.high));
-    let last = first + count;
-    let mut k = first + 1;
-    while k < last {
+    for k in first + 1..first + count {
         at += box_bytes;
         let next = ends_at(level, at, Kind::Float32);
         low = lower_f32(low, f32::from_bits(ints::low_four(next.low)));
         high = higher_f32(high, f32::from_bits(ints::low_four(next.high)));
-        k += 1;
     }
     Patterns {
         low: f32::to_bits(low) as u64,
@@ -231,14 +230,11 @@ fn least_f64(level: &[u8], box_bytes: usize, side: usize, first: usize, count: u
     let ends = ends_at(level, at, Kind::Float64);
     let mut low = f64::from_bits(ends.low);
     let mut high = f64::from_bits(ends.high);
-    let last = first + count;
-    let mut k = first + 1;
-    while k < last {
+    for k in first + 1..first + count {
         at += box_bytes;
         let next = ends_at(level, at, Kind::Float64);
         low = lower_f64(low, f64::from_bits(next.low));
         high = higher_f64(high, f64::from_bits(next.high));
-        k += 1;
     }
     Patterns {
         low: f64::to_bits(low),

@@ -1,7 +1,5 @@
--- `writer::least_f32` meets its contract. The invariant: the place is that of the last box that was read, and of the boxes
--- from `first` to it both values are the best, by the laws of `Floats.antt`. The measure is the number of boxes that are
--- left.
--- Assumes nothing.
+-- `writer::least_f32` meets its contract. The invariant: the place is that of the last box that was read, and of the
+-- boxes from `first` to it both values are the best, by the laws of `Floats.antt`. Assumes nothing.
 use Prim.Native.Nat.{ℕ, suc, ◌+◌, ◌-◌, ◌*◌, ◌^◌, ◌≤◌, ◌<◌}
 use mathlib.Core.Path.{◌≡◌, ap, ◌∙◌}
 use native.Mathlib.Omega.{arith}

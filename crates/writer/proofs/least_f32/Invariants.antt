@@ -1,7 +1,5 @@
--- `writer::least_f32` meets its contract. The invariant: the place is that of the last box that was read, and of the boxes
--- from `first` to it both values are the best, by the laws of `Floats.antt`. The measure is the number of boxes that are
--- left.
--- Assumes nothing.
+-- `writer::least_f32` meets its contract. The invariant: the place is that of the last box that was read, and of the
+-- boxes from `first` to it both values are the best, by the laws of `Floats.antt`. Assumes nothing.
 use Prim.Native.Nat.{suc, ◌+◌, ◌-◌, ◌*◌, ◌≤◌, ◌<◌}
 use mathlib.Core.Path.{◌≡◌}
 use lib.Ieee.{binary32, of_bits}
@@ -13,10 +11,7 @@ use Rattle.writer.proofs.least_f32.Given as goal
 abbrev pub invariant-loop-k : goal.invariant-loop-k
 invariant-loop-k l =
     (l.first < l.k)
-    × (l.k ≤ l.last)
+    × (l.k ≤ l.k-end)
     × (l.at + l.box_bytes ≡ l.k * l.box_bytes + l.side)
     × (l.low ≡ of_bits binary32 (ends_at Float32 l.level (lowest_of Float32 l.level l.box_bytes l.side l.first (l.k - suc l.first) * l.box_bytes + l.side)).low)
     × (l.high ≡ of_bits binary32 (ends_at Float32 l.level (highest_of Float32 l.level l.box_bytes l.side l.first (l.k - suc l.first) * l.box_bytes + l.side)).high)
-
-abbrev pub decreases-loop-k : goal.decreases-loop-k
-decreases-loop-k l = l.last - l.k
