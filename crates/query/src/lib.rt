@@ -338,23 +338,23 @@ fn has_nan(bytes: &[u8], at: usize, kind: Kind) -> bool
     ensures { result ≡ has_nan (ends_at kind bytes.now at) }
 {
     match kind {
-        Kind::Float32 => f32s_have_nan(&bytes[at..at + 8]),
+        Kind::Float32 => have_nan::<f32>(&bytes[at..at + 8]),
         Kind::Float64 => f64s_have_nan(&bytes[at..at + 16]),
         Kind::Int32 | Kind::Int64 | Kind::Uint64 => false,
     }
 }
 
-// Whether one of two float32 has a NaN's pattern.
-fn f32s_have_nan(bytes: &[u8]) -> bool
-    ensures { result ≡ (nan_bits binary32 (first_of_two bytes.now 0 4)
-        || nan_bits binary32 (second_of_two bytes.now 0 4)) }
+// Whether one of two floats has a NaN's pattern.
+fn have_nan<F: Float>(bytes: &[u8]) -> bool
+    ensures { result ≡ (nan_bits F.format (first_of_two bytes.now 0 F.Pattern.SIZE)
+        || nan_bits F.format (second_of_two bytes.now 0 F.Pattern.SIZE)) }
 {
-    let ends = order::pair_at::<u32>(bytes, 0);
-    f32::nan_pattern(ends.low) || f32::nan_pattern(ends.high)
+    let ends = order::pair_at::<F::Pattern>(bytes, 0);
+    F::nan_pattern(ends.low) || F::nan_pattern(ends.high)
 }
 
-// Whether one of two float64 has a NaN's pattern. Their upper bytes tell it of nearly every number, so that all eight are
-// read only to become a value.
+// The same of float64. Their upper bytes tell it of nearly every number, so that all eight are read only to become a
+// value.
 fn f64s_have_nan(bytes: &[u8]) -> bool
     ensures { result ≡ (nan_bits binary64 (first_of_two bytes.now 0 8)
         || nan_bits binary64 (second_of_two bytes.now 0 8)) }
@@ -362,8 +362,7 @@ fn f64s_have_nan(bytes: &[u8]) -> bool
     if is_small(order::u32_at(bytes, 4)) && is_small(order::u32_at(bytes, 12)) {
         return false;
     }
-    let ends = order::pair_at::<u64>(bytes, 0);
-    f64::nan_pattern(ends.low) || f64::nan_pattern(ends.high)
+    have_nan::<f64>(bytes)
 }
 
 // Whether the upper four bytes of a float64 are below those of an infinity, whatever the sign.

@@ -12,7 +12,7 @@ pub returns-in-Float32 : goal.returns-in-Float32
 unfolding has_nan is_nan ends_at
 returns-in-Float32 c =
     let at = c.args.at in
-    part-told Float32 c.args.bytes.now at (at + 8 - at) c.in-Float32.is c.requires (omega arith) c.f32s_have_nan.ensures
+    part-told Float32 c.args.bytes.now at (at + 8 - at) c.in-Float32.is c.requires (omega arith) c.have_nan.ensures
 
 pub returns-in-Float64 : goal.returns-in-Float64
 unfolding has_nan is_nan ends_at
