@@ -39,6 +39,27 @@ module _ (list : Refusal) (n S : ℕ) (s : List ℕ) (g : ℕ) (run : List ℕ) 
       = ne_eqb (plan_refusal list n room).number 0 (λ z. h (ap (λ (x : Refusal). x.number) is ∙ z)) in
       (rw (is, not), rw not)
 
+  module _ (accepted : r.number ≡ 0) (marks : List ℕ) (alone : (i : ℕ) → i < n → marked marks i ≡ occurs run i)
+      (inside : ℕ) (entries : inside ≡ how_many (λ x. ltb x n) run) where
+    pub scanned-plan : (p : Progress) (w : Written) (out₁ out₂ : List ℕ)
+        → Scanned g (marked marks) (tile_bytes n S s) n out p out₁ → Closed p out₁ w out₂
+        → (record {
+          number = r.number;
+          place = r.place;
+          ranges = w.ranges;
+          tiles = p.tiles;
+          outside = length run - inside;
+          bytes = w.bytes;
+        } ≡ plan_after list n S s g run room) × (out₂ ≡ output_after list n S s g run room out)
+    scanned-plan p w out₁ out₂ scanned closed =
+        let yes : eqb (plan_refusal list n room).number 0 ≡ true
+        = eq-eqb (plan_refusal list n room).number 0 (sym (ap (λ (x : Refusal). x.number) is) ∙ accepted) in
+        let same = same-planned g (marked marks) (occurs run) (tile_bytes n S s) n alone in
+        let all = all-written (closed.left out _ [] scanned.left) in
+        let outside : length run - inside ≡ how_many (λ x. leb n x) run = omega (arith, in-or-out n run, entries) in
+        let tiles = scanned.tiles ∙ same-different n (marked marks) (occurs run) alone in
+        (rw (is, yes, all.0, all.1, tiles, outside, same), rw yes (all.2 ∙ rw same))
+
 module _ (list : Refusal) (n S : ℕ) (s : List ℕ) (g : ℕ) (run : List ℕ) (room : ℕ) (out : List ℕ) where
   -- what the exit of a `?` tells
   pub refused-told : (r : Result Planned Refused) (e : Refused) → IsErrAnd r (λ y. y ≡ e) → said e ≡ plan_refusal list n room
@@ -46,18 +67,3 @@ module _ (list : Refusal) (n S : ℕ) (s : List ℕ) (g : ℕ) (run : List ℕ) 
   unfolding told_plan
   refused-told (Ok p) e h is = absurd h
   refused-told (Err y) e h is = refused-plan list n S s g run room out (said y) (rw h is) (refuses y)
-
-  module _ (accepted : none ≡ plan_refusal list n room) (marks : List ℕ)
-      (alone : (i : ℕ) → i < n → marked marks i ≡ occurs run i)
-      (inside : ℕ) (entries : inside ≡ how_many (λ x. ltb x n) run) where
-    pub scanned-plan : (p : Progress) (w : Written) (out₁ out₂ : List ℕ)
-        → Scanned g (marked marks) (tile_bytes n S s) n out p out₁ → Closed p out₁ w out₂
-        → (told_plan (Ok (record { ranges = w.ranges; tiles = p.tiles; outside = length run - inside; bytes = w.bytes }))
-        ≡ plan_after list n S s g run room) × (out₂ ≡ output_after list n S s g run room out)
-    unfolding told_plan
-    scanned-plan p w out₁ out₂ scanned closed =
-        let same = same-planned g (marked marks) (occurs run) (tile_bytes n S s) n alone in
-        let all = all-written (closed.left out _ [] scanned.left) in
-        let outside : length run - inside ≡ how_many (λ x. leb n x) run = omega (arith, in-or-out n run, entries) in
-        let tiles = scanned.tiles ∙ same-different n (marked marks) (occurs run) alone in
-        (rw (← accepted, all.0, all.1, tiles, outside, same), rw (← accepted) (all.2 ∙ rw same))

@@ -138,6 +138,14 @@ answer-at-place n s i = go (eqb (var_values_refusal n s).number 0)
     go true = at_place n s i
     go false = refl
 
+-- nowhere of 0 tiles, and so no bytes
+pub none-of-none : (s : List ℕ) (i : ℕ) → var_place_of 0 s i ≡ nowhere
+none-of-none s i = no_place 0 s i (λ l. absurd (omega arith))
+
+pub no_value : (s : List ℕ) (i : ℕ) → var_value_of 0 s i ≡ []
+unfolding var_value_of
+no_value s i = rw (none-of-none s i)
+
 -- ---- the values joined
 module _ (n : ℕ) (s : List ℕ) (sound : Sound n s) where
   abbrev size : ℕ
